@@ -1,0 +1,4 @@
+pub mod Writing
+pub mod Parts
+pub mod Numbers
+pub mod Tests

@@ -1,0 +1,32 @@
+-- A list of tests that all hold, as facts; and tests from facts. Assumes nothing.
+use mathlib.Core.Path.{_≡_, refl, sym}
+use mathlib.Core.List.{List, [], _∷_}
+use mathlib.Core.Bool.{Bool, true, false, _&&_, false≢true}
+use Rattle.octets.specs.Tests.{every}
+
+abbrev pub Each : List Bool → Type 0
+Each [] = Unit {0}
+Each (b ∷ bs) = (b ≡ true) × Each bs
+
+pub each : (bs : List Bool) → every bs ≡ true → Each bs
+unfolding every
+each [] h = tt
+each (true ∷ bs) h = (refl, each bs h)
+each (false ∷ bs) h = absurd (false≢true h)
+
+pub every-by : (bs : List Bool) → Each bs → every bs ≡ true
+unfolding every
+every-by [] h = refl
+every-by (true ∷ bs) h = every-by bs (h .1)
+every-by (false ∷ bs) h = h .0
+
+-- a test that cannot hold
+pub false-by : (b : Bool) → (b ≡ true → ⊥) → false ≡ b
+false-by true h = absurd (h refl)
+false-by false h = refl
+
+-- two tests of which each holds where the other does
+pub same-by : (a b : Bool) → (a ≡ true → b ≡ true) → (b ≡ true → a ≡ true) → a ≡ b
+same-by true b f g = sym (f refl)
+same-by false true f g = g refl
+same-by false false f g = refl
