@@ -1,5 +1,6 @@
 // Big-endian numbers, read from a slice and written over the start of one, and padding.
 ghost use mathlib.Core.Path.{_≡_};
+ghost use mathlib.Core.List.{_++_};
 ghost use Prim.Native.Nat.{_+_, _*_, _≤_, _<_};
 ghost use lib.ListN.{length, replicate};
 ghost use Rattle.octets.specs.Numbers.{be8, be16, be24, be32, oct8, oct16, oct24, oct32, padded};
@@ -91,6 +92,15 @@ pub fn put32(buf: &mut [u8], x: u32)
     buf[1] = (x / 65536 % 256) as u8;
     buf[2] = (x / 256 % 256) as u8;
     buf[3] = (x % 256) as u8;
+}
+
+// Two numbers of 16 bits, the second directly behind the first.
+pub fn put_pair(buf: &mut [u8], a: u16, b: u16)
+    requires { ⌜ 4 ≤ length (now buf) ⌝ }
+    ensures { λ _. ⌜ now (buf .exit) ≡ over (oct16 a ++ oct16 b) (now (buf .entry)) ⌝ }
+{
+    put16(buf, a);
+    put16(&mut buf[2..], b);
 }
 
 pub fn put_copy(buf: &mut [u8], src: &[u8])
