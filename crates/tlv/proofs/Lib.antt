@@ -1,0 +1,4 @@
+pub mod Firsts
+pub mod Fold
+pub mod Holders
+pub mod Depth
