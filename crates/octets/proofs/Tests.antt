@@ -30,3 +30,10 @@ pub same-by : (a b : Bool) → (a ≡ true → b ≡ true) → (b ≡ true → a
 same-by true b f g = sym (f refl)
 same-by false true f g = g refl
 same-by false false f g = refl
+
+-- of two tests the first holds: the second decides
+pub second-of : (a b : Bool) → a ≡ true → b ≡ every (a ∷ b ∷ [])
+unfolding every
+second-of true true h = refl
+second-of true false h = refl
+second-of false b h = absurd (false≢true h)

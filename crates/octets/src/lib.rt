@@ -6,11 +6,14 @@ ghost use lib.ListN.{length, replicate};
 ghost use Rattle.octets.specs.Numbers.{be8, be16, be24, be32, oct8, oct16, oct24, oct32, padded};
 ghost use Rattle.octets.specs.Writing.{over};
 
+// The one reader that may be asked past the end.
 pub fn read8(s: &[u8], at: usize) -> u8
-    requires { ⌜ at < length (now s) ⌝ }
     ensures { λ r. ⌜ r ≡ be8 (now (s .entry)) at ⌝ }
 {
-    s[at]
+    if at < s.len() {
+        return s[at];
+    }
+    0
 }
 
 pub fn read16(s: &[u8], at: usize) -> u16
@@ -35,7 +38,7 @@ pub fn read32(s: &[u8], at: usize) -> u32
 }
 
 // Octets as one number. A parameter brings its range, where an element of a slice would have to be shown to have it.
-fn join16(a: u8, b: u8) -> u16
+pub fn join16(a: u8, b: u8) -> u16
     ensures { λ r. ⌜ r ≡ a * 256 + b ⌝ }
 {
     (a as u16) * 256 + (b as u16)
@@ -47,7 +50,7 @@ fn join24(a: u8, b: u8, c: u8) -> u32
     ((a as u32) * 256 + (b as u32)) * 256 + (c as u32)
 }
 
-fn join32(a: u8, b: u8, c: u8, d: u8) -> u32
+pub fn join32(a: u8, b: u8, c: u8, d: u8) -> u32
     ensures { λ r. ⌜ r ≡ ((a * 256 + b) * 256 + c) * 256 + d ⌝ }
 {
     (((a as u32) * 256 + (b as u32)) * 256 + (c as u32)) * 256 + (d as u32)
