@@ -3,7 +3,7 @@ ghost use mathlib.Core.Path.{_≡_};
 ghost use mathlib.Core.List.{_++_};
 ghost use Prim.Native.Nat.{_≤_, _<_};
 ghost use lib.ListN.{length};
-ghost use Rattle.octets.specs.Numbers.{oct8, oct16, oct24};
+ghost use Rattle.octets.specs.Numbers.{oct8, oct24};
 ghost use Rattle.octets.specs.Writing.{over};
 ghost use Rattle.header.specs.Bits.{resultOf, codeOf, resultAndCode, lastOf, submessageOf, lastAndSubmessage};
 ghost use Rattle.header.specs.Header.{sizeOk, usable, headerIn, headIn, headerOf};
@@ -89,21 +89,17 @@ pub fn put_header(buf: &mut [u8], h: Header, n: usize)
 {
     let size = (12 + n) as u16;
     octets::put_pair(buf, 0x880C, size);
-    put_kind(&mut buf[4..], h.kind, result_and_code(h.result, h.code));
+    octets::put_triple(
+        &mut buf[4..],
+        0x32,
+        h.kind,
+        result_and_code(h.result, h.code),
+    );
     put_transaction(&mut buf[8..], h.partition, h.transaction);
     octets::put_pair(&mut buf[12..], last_and_submessage(1), size);
 }
 
-// The second of the header's four words, and the third.
-fn put_kind(buf: &mut [u8], kind: u8, field: u16)
-    requires { ⌜ 4 ≤ length (now buf) ⌝ }
-    ensures { λ _. ⌜ now (buf .exit) ≡ over (oct8 0x32 ++ oct8 kind ++ oct16 field) (now (buf .entry)) ⌝ }
-{
-    octets::put8(buf, 0x32);
-    octets::put8(&mut buf[1..], kind);
-    octets::put16(&mut buf[2..], field);
-}
-
+// The third of the header's four words.
 fn put_transaction(buf: &mut [u8], partition: u8, transaction: u32)
     requires { ⌜ 4 ≤ length (now buf) ⌝ }
     ensures { λ _. ⌜ now (buf .exit) ≡ over (oct8 partition ++ oct24 transaction) (now (buf .entry)) ⌝ }

@@ -106,6 +106,16 @@ pub fn put_pair(buf: &mut [u8], a: u16, b: u16)
     put16(&mut buf[2..], b);
 }
 
+// Two numbers of 8 bits and one of 16, each directly behind the one before it.
+pub fn put_triple(buf: &mut [u8], x: u8, y: u8, z: u16)
+    requires { ⌜ 4 ≤ length (now buf) ⌝ }
+    ensures { λ _. ⌜ now (buf .exit) ≡ over (oct8 x ++ oct8 y ++ oct16 z) (now (buf .entry)) ⌝ }
+{
+    put8(buf, x);
+    put8(&mut buf[1..], y);
+    put16(&mut buf[2..], z);
+}
+
 pub fn put_copy(buf: &mut [u8], src: &[u8])
     requires { ⌜ length (now src) ≤ length (now buf) ⌝ }
     ensures { λ _. ⌜ now (buf .exit) ≡ over (now (src .entry)) (now (buf .entry)) ⌝ }

@@ -18,7 +18,7 @@ returns c = let a = c .before .before .before .before .before .before .before .b
     let w₄ : List ℕ = oct16 (lastAndSubmessage 1) ++ oct16 (12 + a .n) in
     lent-behind (w₁ ++ w₂ ++ w₃) w₄ _ 12
     (lent-behind (w₁ ++ w₂) w₃ _ 8
-    (lent-behind w₁ w₂ _ 4 (c .before .before .before .before .before .before .before .before .before .before .before .before .before .before .before .before .put-pair .ensures) refl (rw (c .before .before .before .before .before .before .before .before .before .before .before .before .result-and-code .ensures) at (c .before .before .before .before .before .before .before .before .before .before .before .put-kind .ensures))) refl (c .before .before .before .before .before .before .before .put-transaction .ensures))
+    (lent-behind w₁ w₂ _ 4 (c .before .before .before .before .before .before .before .before .before .before .before .before .before .before .before .before .put-pair .ensures) refl (rw (c .before .before .before .before .before .before .before .before .before .before .before .before .result-and-code .ensures) at (c .before .before .before .before .before .before .before .before .before .before .before .put-triple .ensures))) refl (c .before .before .before .before .before .before .before .put-transaction .ensures))
     refl (rw (c .before .before .before .last-and-submessage .ensures) at (c .before .before .put-pair2 .ensures))
 
 pub put-header-spec : {M : Type 1} → statement M
