@@ -1,0 +1,4 @@
+pub mod Tlv
+pub mod Message
+pub mod Fields
+pub mod Checked
