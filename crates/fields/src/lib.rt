@@ -7,12 +7,19 @@ ghost use Rattle.fields.specs.Flow.{widthOf, lengthAgrees, flowIn, group
 
 // The types of the TLVs.
 pub const CIRCUIT_ID: u16 = 0x0001;
+
 pub const COMMAND: u16 = 0x0011;
+
 pub const ALLOCATION: u16 = 0x0015;
+
 pub const REQUEST: u16 = 0x0016;
+
 pub const FLOW: u16 = 0x0019;
+
 pub const SEQUENCE: u16 = 0x0022;
+
 pub const STATUS: u16 = 0x0106;
+
 pub const TARGET: u16 = 0x1000;
 
 // Target: how many circuit ids it holds, and the first; empty where there is none.

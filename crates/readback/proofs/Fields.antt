@@ -84,9 +84,9 @@ read-back =
       sequence = λ n. reads 0x0022 (oct32 n) (refl, omega arith);
       flow =
           λ kind family count group sources known lg ls.
-            reads 0x0019 _ (
-              flow-back kind family count group sources known lg ls,
-              group-back kind family count group sources known lg ls,
-              sources-back kind family count group sources known lg ls,
-            );
+          reads 0x0019 _ (
+            flow-back kind family count group sources known lg ls,
+            group-back kind family count group sources known lg ls,
+            sources-back kind family count group sources known lg ls,
+          );
     }

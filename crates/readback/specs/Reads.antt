@@ -27,25 +27,17 @@ pub record Reads (w : List ℕ) (t : ℕ) (Fields : List ℕ → Type 0) : Type 
 
 pub record ReadBack : Type 0 where
   pub message : (h : Header) (body : List ℕ) → MessageBack h body
-
   -- any TLV, a copy of a received one and a bare header among them
   pub tlv : (t : ℕ) (c : List ℕ) → Reads (tlvOf t c) t (λ x. x ≡ c)
-
   pub target : (id : List ℕ) → Reads (targetOf id) 0x1000 (λ c. (circuitIds c ≡ 1) × (circuitId c ≡ id))
-
   pub status : (kind : ℕ) (inner : List ℕ)
       → Reads (statusOf kind inner) 0x0106 (λ c. (statusIn c ≡ record { kind = kind; text = 0 }) × (statusText c ≡ []) × (statusTlvs c ≡ inner))
-
   pub command : (code accounting : ℕ) (inner : List ℕ)
       → Reads (commandOf code accounting inner) 0x0011 (λ c. (commandIn c ≡ record { code = code; accounting = accounting }) × (commandTlvs c ≡ inner))
-
   pub allocation : (amount : ℕ) → Reads (allocationOf amount) 0x0015 (λ c. (lengthOk 0x0015 c ≡ true) × (allocationIn c ≡ amount))
-
   pub request : (required preferred : ℕ)
       → Reads (requestOf required preferred) 0x0016 (λ c. (lengthOk 0x0016 c ≡ true) × (requestIn c ≡ record { required = required; preferred = preferred }))
-
   pub sequence : (n : ℕ) → Reads (sequenceOf n) 0x0022 (λ c. (lengthOk 0x0022 c ≡ true) × (sequenceIn c ≡ n))
-
   -- a flow of a known family, whose addresses have its width
   pub flow : (kind family count : ℕ) (group sources : List ℕ)
       → 0 < widthOf family → length group ≡ widthOf family → length sources ≡ widthOf family * count

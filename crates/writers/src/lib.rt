@@ -67,7 +67,14 @@ pub fn put_sequence(buf: &mut [u8], n: u32) -> usize
     8
 }
 
-pub fn put_flow(buf: &mut [u8], kind: u8, family: u8, count: u16, group: &[u8], sources: &[u8]) -> usize
+pub fn put_flow(
+    buf: &mut [u8],
+    kind: u8,
+    family: u8,
+    count: u16,
+    group: &[u8],
+    sources: &[u8],
+) -> usize
     requires { ⌜ 4 + length (now group) + length (now sources) < 65536 ⌝ }
     requires { ⌜ 4 + padded (4 + length (now group) + length (now sources)) ≤ length (now buf) ⌝ }
     ensures { λ r. ⌜ Wrote (flowOf kind family count (now (group .entry)) (now (sources .entry))) r (now (buf .entry)) (now (buf .exit)) ⌝ }

@@ -9,7 +9,7 @@ use Rattle.header.proofs.header_fields.Tie as tie
 
 returns : tie.Need-returns
 unfolding headerIn
-returns c = 
+returns c =
     rw (c .before .before .before .before .read8 .ensures, c .before .before .before .result-of .ensures, c .before .before .code-of .ensures, c .before .before .before .before .before .read16 .ensures, c .before .read82 .ensures, c .read24 .ensures)
 
 pub header-fields-spec : {M : Type 1} → statement M
