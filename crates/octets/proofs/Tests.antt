@@ -1,6 +1,6 @@
 -- A list of tests that all hold, as facts; and tests from facts. Assumes nothing.
 use mathlib.Core.Path.{_≡_, refl, sym}
-use mathlib.Core.List.{List, [], _∷_}
+use mathlib.Core.List.{List, [], _∷_, _++_}
 use mathlib.Core.Bool.{Bool, true, false, _&&_, false≢true}
 use Rattle.octets.specs.Tests.{every}
 
@@ -31,9 +31,16 @@ same-by true b f g = sym (f refl)
 same-by false true f g = g refl
 same-by false false f g = refl
 
--- of two tests the first holds: the second decides
-pub second-of : (a b : Bool) → a ≡ true → b ≡ every (a ∷ b ∷ [])
+-- all tests but the last hold: the last decides
+last-of : (bs : List Bool) (b : Bool) → Each bs → b ≡ every (bs ++ (b ∷ []))
 unfolding every
-second-of true true h = refl
-second-of true false h = refl
-second-of false b h = absurd (false≢true h)
+last-of [] true h = refl
+last-of [] false h = refl
+last-of (true ∷ bs) b h = last-of bs b (h .1)
+last-of (false ∷ bs) b h = absurd (false≢true (h .0))
+
+pub second-of : (a b : Bool) → a ≡ true → b ≡ every (a ∷ b ∷ [])
+second-of a b h = last-of (a ∷ []) b (h, tt)
+
+pub third-of : (a b c : Bool) → a ≡ true → b ≡ true → c ≡ every (a ∷ b ∷ c ∷ [])
+third-of a b c h k = last-of (a ∷ b ∷ []) c (h, (k, tt))
