@@ -4,7 +4,7 @@ use mathlib.Core.List.{List, _++_}
 use mathlib.Core.Bool.{true}
 use Prim.Native.Nat.{ℕ, _+_, _-_, _%_, _/_, _*_, _<_}
 use native.Mathlib.Omega.{arith}
-use lib.ListN.{length, drop, length-append}
+use lib.ListN.{length, drop}
 use lib.Seq.{drop-at}
 use borrow.Author.Tests.{le-leb, eq-eqb}
 use Rattle.octets.specs.Numbers.{be16, be24, oct8, oct16, oct24}
@@ -12,17 +12,10 @@ use Rattle.octets.proofs.Tests.{every-by}
 use Rattle.header.specs.Bits.{resultAndCode}
 use Rattle.header.specs.declared.Header.{Header}
 use Rattle.header.specs.Header.{usable, headerIn, headerOf, messageOf}
+use Rattle.header.proofs.Messages.{length-header, length-message}
 use Rattle.readback.specs.Reads.{MessageBack}
 
-length-header : (h : Header) (n : ℕ) → length (headerOf h n) ≡ 16
-unfolding headerOf oct8 oct16 oct24
-length-header h n = refl
-
 module _ (h : Header) (body : List ℕ) where
-  size-back : length (messageOf h body) ≡ 16 + length body
-  unfolding messageOf
-  size-back = length-append (headerOf h (length body)) body ∙ rw length-header
-
   usable-back : usable (messageOf h body) ≡ true
   unfolding usable messageOf headerOf oct8 oct16 oct24
   usable-back = every-by _ (omega (arith, le-leb, eq-eqb))
@@ -42,4 +35,4 @@ module _ (h : Header) (body : List ℕ) where
 
 pub message-back : (h : Header) (body : List ℕ) → MessageBack h body
 message-back h body =
-    record { size = size-back h body; is-usable = usable-back h body; header = header-back h body; tlvs = tlvs-back h body }
+    record { size = length-message h body; is-usable = usable-back h body; header = header-back h body; tlvs = tlvs-back h body }
