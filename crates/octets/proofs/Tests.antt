@@ -20,6 +20,10 @@ every-by [] h = refl
 every-by (true ∷ bs) h = every-by bs (h .1)
 every-by (false ∷ bs) h = h .0
 
+pub both : (x y : Bool) → (x && y) ≡ true → (x ≡ true) × (y ≡ true)
+both true y e = (refl, e)
+both false y e = absurd (false≢true e)
+
 -- a test that cannot hold
 pub false-by : (b : Bool) → (b ≡ true → ⊥) → false ≡ b
 false-by true h = absurd (h refl)

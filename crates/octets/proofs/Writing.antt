@@ -74,3 +74,8 @@ lent-before a b l {y} {z} n en h ey ez =
     ∙ ap (λ (r : List ℕ). a ++ r)
     (drop-at (take n l) y (length a) (length-take-le n l h ∙ sym en) ∙ ey ∙ rw (rest-part, drop-drop, length-append, en))
     ∙ sym (append-assoc a b _)
+
+-- the front of a buffer is what was written over it
+pub over-front : (w l : List ℕ) {x : List ℕ} (n : ℕ) → x ≡ over w l → n ≡ length w → take n x ≡ w
+unfolding over
+over-front w l n e h = ap (take n) e ∙ take-at w (drop (length w) l) n (sym h)

@@ -1,0 +1,2 @@
+pub mod FlowOctets
+pub mod Back

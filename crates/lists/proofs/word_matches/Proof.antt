@@ -1,0 +1,36 @@
+use mathlib.Core.List.{[], _∷_}
+use Prim.Native.Nat.{ℕ, _-_, _/_, _^_}
+use mathlib.Core.Path.{_≡_, sym, ap, ap₂, _∙_}
+use lib.Dec.{eqb}
+use native.Mathlib.Nat.{div-one}
+use native.Mathlib.Omega.{arith}
+use Rattle.lists.proofs.Prefix.{word-shift, prefix-none}
+use borrow.Author.Needs.{needs}
+use Rattle.lists.proofs.word_matches.Statement.{statement}
+use Rattle.lists.proofs.word_matches.Tie as tie
+
+returns : tie.Need-returns
+returns c = let a = c .before .args in rw (c .if1 .taken) (sym (prefix-none (a .a ∷ []) (a .b ∷ [])))
+
+returns-2 : tie.Need-returns-2
+returns-2 c =
+    let a = c .before .before .args in
+    let e : 0 ≡ 32 - a .length = omega arith in
+    ap₂ eqb (sym (div-one (a .a))) (sym (div-one (a .b)))
+    ∙ ap (λ (k : ℕ). eqb (a .a / 2 ^ k) (a .b / 2 ^ k)) e
+    ∙ sym (word-shift (a .length) (a .a) (a .b) (c .before .before .fits .a .fits) (c .before .before .fits .b .fits))
+
+returns-3 : tie.Need-returns-3
+returns-3 c = let a = c .before .before .args in sym (word-shift (a .length) (a .a) (a .b) (c .before .before .fits .a .fits) (c .before .before .fits .b .fits))
+
+pub word-matches-spec : {M : Type 1} → statement M
+word-matches-spec =
+    tie.close
+    (tie.spec
+    returns
+    returns-2
+    (λ c. search needs)
+    (λ c. search needs)
+    (λ c. search needs)
+    (λ c. search needs)
+    returns-3)

@@ -1,0 +1,174 @@
+// The list entries, 128 rows of 12 words lent by the host, and what they decide for a flow.
+// A row is family, list, group prefix length, source prefix length, group (4), source (4).
+ghost use mathlib.Core.Path.{_≡_};
+ghost use mathlib.Core.List.{[], _∷_};
+ghost use Prim.Native.Nat.{_<_};
+ghost use Rattle.lists.specs.Prefix.{prefixMatches};
+ghost use Rattle.lists.specs.Lists.{entryAt, entryMatches, weightOf, listDecision};
+ghost use Rattle.lists.specs.Standing.{strengthOf, standingOf, decisionOf};
+use flows::Flow;
+use rows::at_most;
+
+// List numbers, as RFC 7256 has them.
+pub const WHITE: u32 = 1;
+
+pub const BLACK: u32 = 2;
+
+pub const GREY: u32 = 3;
+
+pub struct Entry {
+    pub family: u32,
+    pub list: u32,
+    pub group_length: u32,
+    pub source_length: u32,
+    pub group: [u32; 4],
+    pub source: [u32; 4],
+}
+
+// What the lists say of a flow; None where no entry matches.
+pub enum Decision {
+    Black,
+    Grey,
+    White,
+    None,
+}
+
+// ---- prefixes
+
+// Two addresses agree in as many leading bits as the prefix asks, word by word.
+pub fn prefix_matches(a: [u32; 4], b: [u32; 4], length: u32) -> bool
+    ensures { λ r. ⌜ r ≡ prefixMatches length a b ⌝ }
+{
+    let mut i: usize = 0;
+    let mut left = length;
+    while i < 4 {
+        if !word_matches(a[i], b[i], left) {
+            return false;
+        }
+        if left <= 32 {
+            return true;
+        }
+        left -= 32;
+        i += 1;
+    }
+    true
+}
+
+// The same of one word.
+fn word_matches(a: u32, b: u32, length: u32) -> bool
+    ensures { λ r. ⌜ r ≡ prefixMatches length (a ∷ []) (b ∷ []) ⌝ }
+{
+    if length == 0 {
+        return true;
+    }
+    if 32 <= length {
+        return a == b;
+    }
+    a >> (32 - length) == b >> (32 - length)
+}
+
+// ---- entries
+
+pub fn entry_at(entries: &[u32; 1536], i: usize) -> Entry
+    requires { ⌜ i < 128 ⌝ }
+    ensures { λ r. ⌜ r ≡ entryAt (now (entries .entry)) i ⌝ }
+{
+    let at = i * 12;
+    let g = at + 4;
+    let s = at + 8;
+    Entry {
+        family: entries[at],
+        list: entries[at + 1],
+        group_length: entries[at + 2],
+        source_length: entries[at + 3],
+        group: [entries[g], entries[g + 1], entries[g + 2], entries[g + 3]],
+        source: [entries[s], entries[s + 1], entries[s + 2], entries[s + 3]],
+    }
+}
+
+pub fn entry_matches(e: Entry, f: Flow) -> bool
+    ensures { λ r. ⌜ r ≡ entryMatches e f ⌝ }
+{
+    if e.family != f.family {
+        return false;
+    }
+    let eg = e.group;
+    let fg = f.group;
+    if !prefix_matches(eg, fg, e.group_length) {
+        return false;
+    }
+    if f.sourced == 0 {
+        return e.source_length == 0;
+    }
+    let ex = e.source;
+    let fx = f.source;
+    prefix_matches(ex, fx, e.source_length)
+}
+
+// ---- the decision
+
+// The matching entry that stands highest decides. One that would not stand higher is not compared with the flow.
+pub fn list_decision(entries: &[u32; 1536], n: usize, f: Flow) -> Decision
+    ensures { λ r. ⌜ r ≡ listDecision (now (entries .entry)) n f ⌝ }
+{
+    let rows = at_most(n, 128);
+    let mut best: u64 = 0;
+    let mut i: usize = 0;
+    while i < rows {
+        let e = entry_at(entries, i);
+        let s = standing_of(e);
+        if best < s {
+            if entry_matches(e, f) {
+                best = s;
+            }
+        }
+        i += 1;
+    }
+    decision_of(best)
+}
+
+// By weight, and on a tie by list.
+fn standing_of(e: Entry) -> u64
+    ensures { λ r. ⌜ r ≡ standingOf e ⌝ }
+{
+    weight_of(e) * 4 + strength_of(e.list)
+}
+
+// What decides before the list does: the length of the group prefix. The bound leaves room for the strength beside it.
+fn weight_of(e: Entry) -> u64
+    ensures { λ r. ⌜ r ≡ weightOf e ⌝ }
+    ensures { λ r. ⌜ r < 1099511627776 ⌝ }
+{
+    wide(e.group_length)
+}
+
+// Black goes before grey, grey before white.
+fn strength_of(list: u32) -> u64
+    ensures { λ r. ⌜ r ≡ strengthOf list ⌝ }
+    ensures { λ r. ⌜ r < 4 ⌝ }
+{
+    match list {
+        BLACK => 3,
+        GREY => 2,
+        WHITE => 1,
+        _ => 0,
+    }
+}
+
+fn decision_of(standing: u64) -> Decision
+    ensures { λ r. ⌜ r ≡ decisionOf standing ⌝ }
+{
+    match standing % 4 {
+        3 => Decision::Black,
+        2 => Decision::Grey,
+        1 => Decision::White,
+        _ => Decision::None,
+    }
+}
+
+// A parameter brings its range, where a field would have to be shown to have it.
+fn wide(x: u32) -> u64
+    ensures { λ r. ⌜ (r ≡ x) × (r < 4294967296) ⌝ }
+{
+    x as u64
+}

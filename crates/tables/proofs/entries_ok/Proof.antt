@@ -1,0 +1,57 @@
+use mathlib.Core.Path.{_≡_, refl, sym, ap, _∙_}
+use mathlib.Core.Bool.{true}
+use native.Mathlib.Omega.{arith}
+use borrow.Author.Tests.{not-true, not-false}
+use Rattle.rows.specs.Rows.{allOf}
+use Rattle.rows.proofs.Rows.{all-on, rows-many, rows-off, rows-end}
+use Rattle.tables.specs.Tables.{entryOk, entryOkAt}
+use borrow.Author.Needs.{needs}
+use Prim.Native.Nat.{_≤_, _-_}
+use Rattle.tables.proofs.entries_ok.Statement.{statement}
+use Rattle.tables.proofs.entries_ok.Tie as tie
+
+abbrev Inv-loop : tie.InvT-loop
+Inv-loop entries n i₀ i = (i ≤ n) × (allOf i (entryOkAt entries) ≡ true)
+
+abbrev μ-loop : tie.MeasureT-loop
+μ-loop entries n i₀ i = n - i
+
+returns : tie.Need-returns Inv-loop μ-loop
+returns c =
+    let a = c .before .args in rows-many 128 (a .n) (entryOkAt (a .entries .now)) (c .if1 .taken)
+
+loop-holds : tie.Need-loop-holds Inv-loop μ-loop
+unfolding allOf
+loop-holds c =
+    (search needs, refl)
+
+returns-2 : tie.Need-returns-2 Inv-loop μ-loop
+returns-2 c =
+    let a = c .before .before .before .before .before .before .args in
+    rows-off 128 (a .n) (entryOkAt (a .entries .now)) (c .before .before .before .before .loop .i) (c .before .before .before .loop-test .taken) (ap entryOk (sym (c .before .before .entry-at .ensures)) ∙ sym (c .before .entry-ok .ensures) ∙ not-true _ (c .if2 .taken))
+
+loop-again : tie.Need-loop-again Inv-loop μ-loop
+loop-again c =
+    let a = c .before .before .before .before .before .before .args in
+    (omega arith, all-on (c .before .before .before .before .loop .i) (entryOkAt (a .entries .now)) (c .before .before .before .before .loop .inv .1) (ap entryOk (sym (c .before .before .entry-at .ensures)) ∙ sym (c .before .entry-ok .ensures) ∙ not-false _ (c .if2 .left)))
+
+returns-3 : tie.Need-returns-3 Inv-loop μ-loop
+returns-3 c =
+    let a = c .before .before .before .args in
+    rows-end 128 (a .n) (entryOkAt (a .entries .now)) (c .before .loop .i) (c .before .before .if1 .left) (c .loop-test .left) (c .before .loop .inv .0) (c .before .loop .inv .1)
+
+pub entries-ok-spec : {M : Type 1} → statement M
+entries-ok-spec =
+    tie.close
+    (tie.spec
+    Inv-loop
+    μ-loop
+    returns
+    loop-holds
+    (λ c κs. search needs)
+    (λ c κs. search needs)
+    returns-2
+    (λ c. search needs)
+    (λ c. search needs)
+    loop-again
+    returns-3)
