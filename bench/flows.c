@@ -1,0 +1,90 @@
+/* Finding a channel among 256 and deciding among 128 list entries: the proved functions against plain C loops, in one run.
+   Build and run: bench/run */
+#include <stdint.h>
+#include <stdio.h>
+#include <stdlib.h>
+#include <string.h>
+#include <time.h>
+
+typedef struct { uint32_t family, sourced, group[4], source[4]; } flow;
+
+uint32_t speed_channel(const uint32_t *channels, size_t n, flow f);
+uint32_t speed_list(const uint32_t *entries, size_t n, flow f);
+
+static uint32_t channels[256 * 11], entries[128 * 12];
+
+__attribute__((noinline)) static uint32_t c_channel(const uint32_t *t, size_t n, const flow *f) {
+    for (size_t i = 0; i < n; i++) {
+        const uint32_t *r = t + i * 11;
+        if (r[0] == f->family && r[1] == f->sourced && !memcmp(r + 3, f->group, 16) && !memcmp(r + 7, f->source, 16)) return (uint32_t)i;
+    }
+    return 256;
+}
+
+static int prefix(uint32_t n, const uint32_t *a, const uint32_t *b) {
+    for (int w = 0; w < 4 && n; w++) {
+        uint32_t k = n < 32 ? n : 32;
+        if ((a[w] ^ b[w]) >> (32 - k)) return 0;
+        n -= k;
+    }
+    return 1;
+}
+
+__attribute__((noinline)) static uint32_t c_list(const uint32_t *t, size_t n, const flow *f) {
+    static const uint32_t strength[4] = {0, 1, 3, 2}, list[4] = {0, 1, 3, 2};
+    uint32_t best = 0;
+    for (size_t i = 0; i < n; i++) {
+        const uint32_t *e = t + i * 12;
+        if (e[0] != f->family || !prefix(e[2], e + 4, f->group)) continue;
+        if (f->sourced ? !prefix(e[3], e + 8, f->source) : e[3] != 0) continue;
+        uint32_t standing = e[2] * 4 + (e[1] < 4 ? strength[e[1]] : 0);
+        if (standing > best) best = standing;
+    }
+    return list[best % 4];
+}
+
+static double now(void) { struct timespec t; clock_gettime(CLOCK_MONOTONIC, &t); return t.tv_sec * 1e9 + t.tv_nsec; }
+
+static void fill(uint32_t family) {
+    memset(channels, 0, sizeof channels);
+    memset(entries, 0, sizeof entries);
+    int last = family == 1 ? 0 : 3;
+    for (int i = 0; i < 256; i++) {
+        uint32_t *r = channels + i * 11;
+        r[0] = family; r[1] = 1; r[2] = 2000;
+        r[3] = family == 1 ? 0xE9FC0000 : 0xFF340000;
+        r[3 + last] += (uint32_t)i + 1;
+        r[7] = family == 1 ? 0xC0000200 : 0x20010DB8;
+        r[7 + last] += 1;
+    }
+    for (int i = 0; i < 128; i++) {
+        uint32_t *e = entries + i * 12;
+        e[0] = family; e[1] = (uint32_t)i % 3 + 1;
+        e[2] = family == 1 ? 24 + (uint32_t)i % 9 : 120 + (uint32_t)i % 9;
+        e[3] = (uint32_t)i % 2 * 16;
+        memcpy(e + 4, channels + (i * 2 % 256) * 11 + 3, 16);
+        memcpy(e + 8, channels + 7, 16);
+    }
+}
+
+static flow row(int i) { flow f; const uint32_t *r = channels + i * 11; f.family = r[0]; f.sourced = r[1]; memcpy(f.group, r + 3, 16); memcpy(f.source, r + 7, 16); return f; }
+
+int main(void) {
+    enum { N = 200000 };
+    for (uint32_t family = 1; family <= 2; family++) {
+        fill(family);
+        for (int i = 0; i < 256; i++) {
+            flow f = row(i);
+            if (speed_channel(channels, 256, f) != c_channel(channels, 256, &f) || speed_list(entries, 128, f) != c_list(entries, 128, &f)) { puts("differ"); return 1; }
+        }
+        flow f = row(255);
+        volatile uint32_t sink = 0;
+        double a = now(); for (int i = 0; i < N; i++) { f.source[3] ^= 0; sink += speed_channel(channels, 256, f); }
+        double b = now(); for (int i = 0; i < N; i++) sink += c_channel(channels, 256, &f);
+        double c = now(); for (int i = 0; i < N; i++) sink += speed_list(entries, 128, f);
+        double d = now(); for (int i = 0; i < N; i++) sink += c_list(entries, 128, &f);
+        double e = now();
+        printf("IPv%d: last of 256 channels %4.0f ns, C %4.0f ns; 128 entries %4.0f ns, C %4.0f ns\n", family == 1 ? 4 : 6, (b - a) / N, (c - b) / N, (d - c) / N, (e - d) / N);
+    }
+    return 0;
+}
