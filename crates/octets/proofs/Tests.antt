@@ -1,7 +1,7 @@
 -- A list of tests that all hold, as facts; and tests from facts. Assumes nothing.
-use mathlib.Core.Path.{_≡_, refl, sym}
+use mathlib.Core.Path.{_≡_, refl, sym, ap}
 use mathlib.Core.List.{List, [], _∷_, _++_}
-use mathlib.Core.Bool.{Bool, true, false, _&&_, false≢true}
+use mathlib.Core.Bool.{Bool, true, false, cond, _&&_, false≢true}
 use Rattle.octets.specs.Tests.{every}
 
 abbrev pub Each : List Bool → Type 0
@@ -48,3 +48,10 @@ second-of a b h = last-of (a ∷ []) b (h, tt)
 
 pub third-of : (a b c : Bool) → a ≡ true → b ≡ true → c ≡ every (a ∷ b ∷ c ∷ [])
 third-of a b c h k = last-of (a ∷ b ∷ []) c (h, (k, tt))
+
+-- a case that is taken, and one that is left
+pub taken {ℓ} : {A : Type ℓ} (b : Bool) (x y : A) → b ≡ true → x ≡ cond b x y
+taken b x y h = ap (λ (t : Bool). cond t x y) (sym h)
+
+pub left {ℓ} : {A : Type ℓ} (b : Bool) (x y : A) → b ≡ false → y ≡ cond b x y
+left b x y h = ap (λ (t : Bool). cond t x y) (sym h)

@@ -1,0 +1,5 @@
+pub mod Cards
+pub mod Outcome
+pub mod Calls
+pub mod Start
+pub mod Figures

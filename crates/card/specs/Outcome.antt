@@ -1,0 +1,31 @@
+-- What a call comes to (01, "What comes back from a call"): the card behind it, the number, the reply's octets.
+-- Assumes nothing: these are definitions.
+use Prim.Native.Nat.{ℕ}
+use mathlib.Core.Path.{_≡_}
+use mathlib.Core.List.{List, []}
+use lib.ListN.{length}
+use Rattle.octets.specs.Writing.{over}
+use Rattle.card.specs.declared.Card.{Card}
+use Rattle.card.specs.declared.Done.{Done}
+
+pub record Outcome : Type 0 where
+  pub card : Card
+  pub number : ℕ
+  pub reply : List ℕ
+
+-- the card stays as it is, and nothing is written
+abbrev pub keeps : Card → ℕ → Outcome
+keeps card number = record { card = card; number = number; reply = [] }
+
+-- done, without a reply
+abbrev pub becomes : Card → Outcome
+becomes card = record { card = card; number = 0; reply = [] }
+
+-- what a function that comes to an outcome returns
+abbrev pub doneOf : Outcome → Done
+doneOf o = record { card = o .card; number = o .number; length = length (o .reply) }
+
+-- and what it leaves in the buffer that it is lent: the reply over its start, beyond it the buffer is kept
+pub record Ends (o : Outcome) (r : Done) (before after : List ℕ) : Type 0 where
+  pub gives : r ≡ doneOf o
+  pub text : after ≡ over (o .reply) before

@@ -1,0 +1,5 @@
+pub mod Turns
+pub mod Rooms
+pub mod Whole
+pub mod Marks
+pub mod Pools

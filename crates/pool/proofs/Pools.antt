@@ -1,0 +1,211 @@
+-- What each writer does to every figure of every port. A figure is a sum over the port's records with a weight w of channel, charge and
+-- accounting (`recordSum`); count, committed amount and membership are instances, by computation (`count-is`, `committed-is`, `holds-is`).
+--     free-at, free-first, free-none       the record that `freeOf` gives is free, and none before it; where it gives 512 none is
+--     pool-began, pool-began-other         port p has one flow more, of that channel, charge and accounting; the other ports what they had:
+--                                          whichever free record is taken
+--     pool-ended, pool-ended-other         port p has its flows but the selected ones; the other ports what they had
+--     serves-again                         a record whose flow ended is free
+--     pool-accounted, pool-accounted-other, charges-kept      accounting alone is set, and only of that flow
+--     pool-fresh                           no port has a flow
+-- Assumes nothing.
+use Prim.Native.Nat.{ℕ, _+_, _≤_, _<_}
+use mathlib.Core.Path.{_≡_, refl, sym, ap, _∙_}
+use mathlib.Core.Bool.{Bool, true, false, cond, _&&_, false≢true}
+use mathlib.Core.List.{List}
+use native.Mathlib.Omega.{arith}
+use lib.ListN.{length, getD, set, getD-replicate}
+use lib.Dec.{eqb, ltb}
+use lib.Seq.{getD-set-same, getD-set-other}
+use borrow.Author.Tests.{eqb-true, eqb-false, eq-eqb, ne-eqb, ltb-true, ltb-false}
+use Rattle.channels.specs.Channels.{rateAt}
+use Rattle.rows.specs.Rows.{firstOf}
+use Rattle.rows.specs.declared.Found.{Found}
+use Rattle.rows.specs.declared.Found.the-variants.{At, Nothing}
+use Rattle.rows.proofs.Rows.{FoundAt, found-at, found-none}
+use Rattle.sums.specs.Sums.{sumTo, mapTo}
+use Rattle.sums.proofs.Sums.{sumTo-ext, sumTo-change, sumTo-none}
+use Rattle.sums.proofs.Maps.{mapTo-getD}
+use Rattle.pool.specs.Pool.{isOf, sumOver, recordSum, plain, poolSum, countOf, committedOf, holdsOf, free, orSize, freeIn, freeOf, freshPool, began, isOne, ended, accounted}
+use Rattle.pool.specs.declared.Pool.{Pool}
+use Rattle.pool.proofs.Whole.{Whole}
+
+-- ---- figures as sums
+module _ (pool : Pool) (p : ℕ) where
+  pub count-is : countOf pool p ≡ poolSum pool p (λ k c. 1)
+  count-is = refl
+
+  pub committed-is : (table : List ℕ) → committedOf table pool p ≡ poolSum pool p (λ k c. cond c (rateAt table k) 0)
+  committed-is table = refl
+
+  pub holds-is : (k : ℕ) → holdsOf pool p k ≡ poolSum pool p (λ j c. cond (eqb j k) 1 0)
+  holds-is k = refl
+
+-- ---- the free record
+module _ (owner : List ℕ) where
+  free-by : {C : Type 0} → ((i : ℕ) → freeIn owner ≡ i → FoundAt 512 (isOf owner free) i → C)
+      → (freeIn owner ≡ 512 → ((j : ℕ) → j < 512 → isOf owner free j ≡ false) → C) → C
+  unfolding freeIn
+  free-by {C} f g = go (firstOf 512 (isOf owner free)) refl
+    where
+      go : (r : Found) → firstOf 512 (isOf owner free) ≡ r → C
+      go (At i) e = f i (ap orSize e) (found-at (isOf owner free) 512 e)
+      go Nothing e = g (ap orSize e) (found-none (isOf owner free) 512 e)
+
+  pub free-at : freeIn owner < 512 → getD owner (freeIn owner) 0 ≡ free
+  free-at h =
+      free-by
+      (λ i e f. ap (λ (n : ℕ). getD owner n 0) e ∙ eqb-true (getD owner i 0) free (f .passes))
+      (λ e f. absurd (omega arith))
+
+  pub free-first : (j : ℕ) → j < 512 → getD owner j 0 ≡ free → freeIn owner ≤ j
+  free-first j l t = go (ltb j (freeIn owner)) refl
+    where
+      free-j : isOf owner free j ≡ true
+      free-j = eq-eqb (getD owner j 0) free t
+
+      go : (b : Bool) → ltb j (freeIn owner) ≡ b → freeIn owner ≤ j
+      go false e = ltb-false j (freeIn owner) e
+      go true e =
+          let m = ltb-true j (freeIn owner) e in
+          free-by
+          (λ i s f. absurd (false≢true (sym (f .first j (omega arith)) ∙ free-j)))
+          (λ s f. absurd (false≢true (sym (f j l) ∙ free-j)))
+
+-- ---- a record of another port weighs nothing
+module _ (owner : List ℕ) (q i : ℕ) (x : ℕ) where
+  of-port : getD owner i 0 ≡ q → cond (isOf owner q i) x 0 ≡ x
+  of-port h = simp (eq-eqb (getD owner i 0) q h)
+
+  of-other : (getD owner i 0 ≡ q → ⊥) → cond (isOf owner q i) x 0 ≡ 0
+  of-other h = simp (ne-eqb (getD owner i 0) q h)
+
+-- what record i weighs, and what at port q
+abbrev weight : Pool → (ℕ → Bool → ℕ → ℕ) → ℕ → ℕ
+weight pool w i = w (getD (pool .channel) i 0) (getD (pool .charged) i false) (getD (pool .accounting) i 0)
+
+abbrev part : Pool → ℕ → (ℕ → Bool → ℕ → ℕ) → ℕ → ℕ
+part pool q w i = cond (isOf (pool .owner) q i) (weight pool w i) 0
+
+-- ---- a flow begins
+module _ (pool : Pool) (whole : Whole pool) (room : freeOf pool < 512) (p k : ℕ) (c : Bool) (a : ℕ) (w : ℕ → Bool → ℕ → ℕ) where
+  -- every other record is as it was
+  kept : (q j : ℕ) → (j ≡ freeOf pool → ⊥) → part pool q w j ≡ part (began pool p k c a) q w j
+  unfolding began
+  kept q j n =
+      simp (getD-set-other (pool .owner) (freeOf pool) j p 0 n, getD-set-other (pool .channel) (freeOf pool) j k 0 n, getD-set-other (pool .charged) (freeOf pool) j c false n, getD-set-other (pool .accounting) (freeOf pool) j a 0 n)
+
+  changed : (q : ℕ) → (q ≡ free → ⊥) → recordSum (began pool p k c a) q w ≡ recordSum pool q w + part (began pool p k c a) q w (freeOf pool)
+  unfolding sumOver
+  changed q n =
+      let none : part pool q w (freeOf pool) ≡ 0 = of-other (pool .owner) q (freeOf pool) (weight pool w (freeOf pool)) (λ e. n (sym e ∙ free-at (pool .owner) room)) in
+      omega (arith, sumTo-change (part pool q w) (part (began pool p k c a) q w) 512 (freeOf pool) room (λ j l m. kept q j m))
+
+  now-owner : getD (began pool p k c a .owner) (freeOf pool) 0 ≡ p
+  unfolding began
+  now-owner = getD-set-same (pool .owner) (freeOf pool) p 0 (omega (arith, whole .owner))
+
+  now-weight : weight (began pool p k c a) w (freeOf pool) ≡ w k c a
+  unfolding began
+  now-weight =
+      let hk = getD-set-same (pool .channel) (freeOf pool) k 0 (omega (arith, whole .channel)) in
+      let hc = getD-set-same (pool .charged) (freeOf pool) c false (omega (arith, whole .charged)) in
+      let ha = getD-set-same (pool .accounting) (freeOf pool) a 0 (omega (arith, whole .accounting)) in
+      simp (hk, hc, ha)
+
+  pub pool-began : (p ≡ free → ⊥) → recordSum (began pool p k c a) p w ≡ recordSum pool p w + w k c a
+  pool-began n = omega (arith, changed p n, of-port (began pool p k c a .owner) p (freeOf pool) (weight (began pool p k c a) w (freeOf pool)) now-owner, now-weight)
+
+  pub pool-began-other : (q : ℕ) → (q ≡ free → ⊥) → (q ≡ p → ⊥) → recordSum (began pool p k c a) q w ≡ recordSum pool q w
+  pool-began-other q n m = omega (arith, changed q n, of-other (began pool p k c a .owner) q (freeOf pool) (weight (began pool p k c a) w (freeOf pool)) (λ e. m (sym e ∙ now-owner)))
+
+-- ---- flows end: a record with owner o, of weight x, is freed where it is port p's and selected
+module _ (p q : ℕ) (n : q ≡ free → ⊥) (o x : ℕ) where
+  free-nothing : cond (eqb free q) x 0 ≡ 0
+  free-nothing = simp (ne-eqb free q (λ e. n (sym e)))
+
+  freed-mine : q ≡ p → (s : Bool) → cond (eqb (cond (eqb o p && s) free o) q) x 0 ≡ cond (eqb o q) (cond s 0 x) 0
+  freed-mine m s = go (eqb o p) refl s
+    where
+      go : (b : Bool) → eqb o p ≡ b → (s : Bool) → cond (eqb (cond (b && s) free o) q) x 0 ≡ cond (eqb o q) (cond s 0 x) 0
+      go true e true = free-nothing ∙ sym (simp (eq-eqb o q (eqb-true o p e ∙ sym m)))
+      go true e false = refl
+      go false e true = simp (ne-eqb o q (λ z. eqb-false o p e (z ∙ m)))
+      go false e false = refl
+
+  freed-other : (q ≡ p → ⊥) → (s : Bool) → cond (eqb (cond (eqb o p && s) free o) q) x 0 ≡ cond (eqb o q) x 0
+  freed-other m s = go (eqb o p) refl s
+    where
+      go : (b : Bool) → eqb o p ≡ b → (s : Bool) → cond (eqb (cond (b && s) free o) q) x 0 ≡ cond (eqb o q) x 0
+      go true e true = free-nothing ∙ sym (simp (ne-eqb o q (λ z. m (sym z ∙ eqb-true o p e))))
+      go true e false = refl
+      go false e s = refl
+
+module _ (pool : Pool) (p : ℕ) (sel : ℕ → Bool) where
+  owner-ended : (i : ℕ) → i < 512 → getD (ended pool p sel .owner) i 0 ≡ cond (isOne pool p sel i) free (getD (pool .owner) i 0)
+  unfolding ended
+  owner-ended i l = mapTo-getD 512 (λ j. cond (isOne pool p sel j) free (getD (pool .owner) j 0)) i 0 l
+
+  pub serves-again : (i : ℕ) → i < 512 → isOne pool p sel i ≡ true → freeOf (ended pool p sel) ≤ i
+  serves-again i l t = free-first (ended pool p sel .owner) i l (owner-ended i l ∙ simp t)
+
+  module _ (w : ℕ → Bool → ℕ → ℕ) where
+    part-ended : (q i : ℕ) → i < 512 → part (ended pool p sel) q w i ≡ cond (eqb (cond (isOne pool p sel i) free (getD (pool .owner) i 0)) q) (weight pool w i) 0
+    unfolding ended
+    part-ended q i l = ap (λ (o : ℕ). cond (eqb o q) (weight pool w i) 0) (owner-ended i l)
+
+    pub pool-ended : (p ≡ free → ⊥) → recordSum (ended pool p sel) p w ≡ recordSum pool p (λ k c a. cond (sel k) 0 (w k c a))
+    unfolding sumOver
+    pool-ended n =
+        sumTo-ext (part (ended pool p sel) p w) (part pool p (λ k c a. cond (sel k) 0 (w k c a))) 512
+        (λ i l. part-ended p i l ∙ freed-mine p p n (getD (pool .owner) i 0) (weight pool w i) refl (sel (getD (pool .channel) i 0)))
+
+    pub pool-ended-other : (q : ℕ) → (q ≡ free → ⊥) → (q ≡ p → ⊥) → recordSum (ended pool p sel) q w ≡ recordSum pool q w
+    unfolding sumOver
+    pool-ended-other q n m =
+        sumTo-ext (part (ended pool p sel) q w) (part pool q w) 512
+        (λ i l. part-ended q i l ∙ freed-other p q n (getD (pool .owner) i 0) (weight pool w i) m (sel (getD (pool .channel) i 0)))
+
+-- ---- accounting
+module _ (pool : Pool) (p k v : ℕ) where
+  -- whatever does not ask for the accounting is kept, of every port
+  pub charges-kept : (q : ℕ) (w : ℕ → Bool → ℕ) → poolSum (accounted pool p k v) q w ≡ poolSum pool q w
+  unfolding accounted
+  charges-kept q w = refl
+
+  module _ (w : ℕ → Bool → ℕ → ℕ) where
+    part-accounted : (q i : ℕ) → i < 512
+        → part (accounted pool p k v) q w i ≡ cond (isOf (pool .owner) q i) (w (getD (pool .channel) i 0) (getD (pool .charged) i false) (cond (isOne pool p (λ j. eqb j k) i) v (getD (pool .accounting) i 0))) 0
+    unfolding accounted
+    part-accounted q i l =
+        ap (λ (a : ℕ). cond (isOf (pool .owner) q i) (w (getD (pool .channel) i 0) (getD (pool .charged) i false) a) 0)
+        (mapTo-getD 512 (λ j. cond (isOne pool p (λ h. eqb h k) j) v (getD (pool .accounting) j 0)) i 0 l)
+
+    pub pool-accounted : recordSum (accounted pool p k v) p w ≡ recordSum pool p (λ j c a. w j c (cond (eqb j k) v a))
+    unfolding sumOver
+    pool-accounted =
+        sumTo-ext (part (accounted pool p k v) p w) (part pool p (λ j c a. w j c (cond (eqb j k) v a))) 512
+        (λ i l. part-accounted p i l ∙ mine (isOf (pool .owner) p i) (getD (pool .channel) i 0) (getD (pool .charged) i false) (getD (pool .accounting) i 0))
+      where
+        mine : (b : Bool) (j : ℕ) (c : Bool) (a : ℕ) → cond b (w j c (cond (b && eqb j k) v a)) 0 ≡ cond b (w j c (cond (eqb j k) v a)) 0
+        mine true j c a = refl
+        mine false j c a = refl
+
+    pub pool-accounted-other : (q : ℕ) → (q ≡ p → ⊥) → recordSum (accounted pool p k v) q w ≡ recordSum pool q w
+    unfolding sumOver
+    pool-accounted-other q m =
+        sumTo-ext (part (accounted pool p k v) q w) (part pool q w) 512
+        (λ i l. part-accounted q i l ∙ other (getD (pool .owner) i 0) (eqb (getD (pool .channel) i 0) k) (getD (pool .channel) i 0) (getD (pool .charged) i false) (getD (pool .accounting) i 0))
+      where
+        other : (o : ℕ) (s : Bool) (j : ℕ) (c : Bool) (a : ℕ) → cond (eqb o q) (w j c (cond (eqb o p && s) v a)) 0 ≡ cond (eqb o q) (w j c a) 0
+        other o s j c a = go (eqb o q) refl
+          where
+            go : (b : Bool) → eqb o q ≡ b → cond b (w j c (cond (eqb o p && s) v a)) 0 ≡ cond b (w j c a) 0
+            go true e = simp (ne-eqb o p (λ z. m (sym (eqb-true o q e) ∙ z)))
+            go false e = refl
+
+-- ---- at start
+pub pool-fresh : (q : ℕ) (w : ℕ → Bool → ℕ → ℕ) → (q ≡ free → ⊥) → recordSum freshPool q w ≡ 0
+unfolding sumOver freshPool
+pool-fresh q w n =
+    sumTo-none 512 (part freshPool q w)
+    (λ i l. of-other (freshPool .owner) q i (weight freshPool w i) (λ e. n (sym e ∙ getD-replicate 512 i free 0 l)))

@@ -1,0 +1,143 @@
+-- The 512 flow records (01, "Flows, lists, records"). Assumes nothing: these are definitions.
+-- A figure that a function reads off lent maps is defined on the maps (`countIn owner`), and of a pool it is that of its maps.
+use Prim.Native.Nat.{ℕ, _-_}
+use mathlib.Core.Bool.{Bool, true, false, cond, _&&_, _||_}
+use mathlib.Core.List.{List}
+use lib.ListN.{getD, set, replicate}
+use lib.Dec.{eqb, ltb}
+use Rattle.channels.specs.Channels.{rateAt}
+use Rattle.rows.specs.Rows.{firstOf}
+use Rattle.rows.specs.declared.Found.{Found}
+use Rattle.rows.specs.declared.Found.the-variants.{At, Nothing}
+use Rattle.sums.specs.Sums.{sumTo, mapTo}
+use Rattle.pool.specs.declared.Pool.{Pool}
+
+-- ---- a port's records, and sums over them
+
+-- record i is port p's
+abbrev pub isOf : List ℕ → ℕ → ℕ → Bool
+isOf owner p i = eqb (getD owner i 0) p
+
+-- the sum over port p's records of what f gives for each; shut, so that 512 terms are never written out
+unfoldable pub sumOver : List ℕ → ℕ → (ℕ → ℕ) → ℕ
+sumOver owner p f = sumTo 512 (λ i. cond (isOf owner p i) (f i) 0)
+
+-- the same, where w weighs a record by its channel, whether it is charged, and its accounting
+abbrev pub recordSum : Pool → ℕ → (ℕ → Bool → ℕ → ℕ) → ℕ
+recordSum pool p w = sumOver (pool .owner) p (λ i. w (getD (pool .channel) i 0) (getD (pool .charged) i false) (getD (pool .accounting) i 0))
+
+-- a weight that does not ask for the accounting
+abbrev pub plain : (ℕ → Bool → ℕ) → ℕ → Bool → ℕ → ℕ
+plain w k c a = w k c
+
+-- every figure of a port is this sum, with a weight of its own
+abbrev pub poolSum : Pool → ℕ → (ℕ → Bool → ℕ) → ℕ
+poolSum pool p w = recordSum pool p (plain w)
+
+-- ---- figures
+
+-- how many flows the port has
+abbrev pub countIn : List ℕ → ℕ → ℕ
+countIn owner p = sumOver owner p (λ i. 1)
+
+-- the port's committed amount: the rates of its charged flows
+abbrev pub committedIn : List ℕ → List ℕ → List ℕ → List Bool → ℕ → ℕ
+committedIn table owner channel charged p = sumOver owner p (λ i. cond (getD charged i false) (rateAt table (getD channel i 0)) 0)
+
+-- how many of the port's records hold channel k: on cards that calls reach, 0 or 1
+abbrev pub holdsIn : List ℕ → List ℕ → ℕ → ℕ → ℕ
+holdsIn owner channel p k = sumOver owner p (λ i. cond (eqb (getD channel i 0) k) 1 0)
+
+-- the port has the flow of channel k
+abbrev pub activeIn : List ℕ → List ℕ → ℕ → ℕ → Bool
+activeIn owner channel p k = ltb 0 (holdsIn owner channel p k)
+
+-- "A flow beyond a port's fourth is an extra": the extras of all ports
+abbrev pub extrasIn : List ℕ → ℕ
+extrasIn owner = sumTo 64 (λ p. countIn owner p - 4)
+
+-- "Room exists when the port has under 4 flows, or under 16 while extras over all ports are under 256"
+abbrev pub roomFor : ℕ → ℕ → Bool
+roomFor n e = ltb n 4 || (ltb n 16 && ltb e 256)
+
+-- a record is free where its owner is this number, which is no port's
+abbrev pub free : ℕ
+free = 255
+
+abbrev pub orSize : Found → ℕ
+orSize (At i) = i
+orSize Nothing = 512
+
+-- the first free record, or 512 where none is. Which free record is taken is the program's choice; `record-began` and
+-- `record-began-other` (proofs/Pools.antt) say what every choice has in common
+unfoldable pub freeIn : List ℕ → ℕ
+freeIn owner = orSize (firstOf 512 (isOf owner free))
+
+-- room by the rule, and a free record. On cards that calls reach the second follows from the first (`room-free`); it makes the
+-- definition total
+unfoldable pub roomIn : List ℕ → ℕ → Bool
+roomIn owner p = roomFor (countIn owner p) (extrasIn owner) && ltb (freeIn owner) 512
+
+-- ---- the same of a pool
+
+abbrev pub countOf : Pool → ℕ → ℕ
+countOf pool p = countIn (pool .owner) p
+
+abbrev pub committedOf : List ℕ → Pool → ℕ → ℕ
+committedOf table pool p = committedIn table (pool .owner) (pool .channel) (pool .charged) p
+
+abbrev pub holdsOf : Pool → ℕ → ℕ → ℕ
+holdsOf pool p k = holdsIn (pool .owner) (pool .channel) p k
+
+abbrev pub isActive : Pool → ℕ → ℕ → Bool
+isActive pool p k = activeIn (pool .owner) (pool .channel) p k
+
+abbrev pub extrasOf : Pool → ℕ
+extrasOf pool = extrasIn (pool .owner)
+
+abbrev pub freeOf : Pool → ℕ
+freeOf pool = freeIn (pool .owner)
+
+abbrev pub hasRoom : Pool → ℕ → Bool
+hasRoom pool p = roomIn (pool .owner) p
+
+-- ---- pools
+
+-- "512 flow records, all free at start"
+unfoldable pub freshPool : Pool
+freshPool = record { owner = replicate 512 free; channel = replicate 512 0; charged = replicate 512 false; accounting = replicate 512 0 }
+
+-- a flow of channel k begins at port p, in the free record; with none free nothing is written
+unfoldable pub began : Pool → ℕ → ℕ → Bool → ℕ → Pool
+began pool p k c a = record {
+  owner = set (pool .owner) (freeOf pool) p;
+  channel = set (pool .channel) (freeOf pool) k;
+  charged = set (pool .charged) (freeOf pool) c;
+  accounting = set (pool .accounting) (freeOf pool) a;
+}
+
+abbrev pub withOwner : Pool → List ℕ → Pool
+withOwner pool o = record { owner = o; channel = pool .channel; charged = pool .charged; accounting = pool .accounting }
+
+abbrev pub withAccounting : Pool → List ℕ → Pool
+withAccounting pool a = record { owner = pool .owner; channel = pool .channel; charged = pool .charged; accounting = a }
+
+-- record i is port p's, with a channel that is selected
+abbrev pub isOne : Pool → ℕ → (ℕ → Bool) → ℕ → Bool
+isOne pool p sel i = isOf (pool .owner) p i && sel (getD (pool .channel) i 0)
+
+-- port p's flows of the selected channels end: their records are free, and nothing else is rewritten
+unfoldable pub ended : Pool → ℕ → (ℕ → Bool) → Pool
+ended pool p sel = withOwner pool (mapTo 512 (λ i. cond (isOne pool p sel i) free (getD (pool .owner) i 0)))
+
+-- one flow
+abbrev pub endedFlow : Pool → ℕ → ℕ → Pool
+endedFlow pool p k = ended pool p (λ j. eqb j k)
+
+-- every flow of the port
+abbrev pub endedAll : Pool → ℕ → Pool
+endedAll pool p = ended pool p (λ j. true)
+
+-- "succeed and set accounting only": of port p's flow of channel k
+unfoldable pub accounted : Pool → ℕ → ℕ → ℕ → Pool
+accounted pool p k value = withAccounting pool (mapTo 512 (λ i. cond (isOne pool p (λ j. eqb j k) i) value (getD (pool .accounting) i 0)))
