@@ -3,3 +3,5 @@ pub mod Rooms
 pub mod Whole
 pub mod Marks
 pub mod Pools
+pub mod Law
+pub mod Lists

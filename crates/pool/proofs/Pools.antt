@@ -1,8 +1,10 @@
 -- What each writer does to every figure of every port. A figure is a sum over the port's records with a weight w of channel, charge and
 -- accounting (`recordSum`); count, committed amount and membership are instances, by computation (`count-is`, `committed-is`, `holds-is`).
---     free-at, free-first, free-none       the record that `freeOf` gives is free, and none before it; where it gives 512 none is
---     pool-began, pool-began-other         port p has one flow more, of that channel, charge and accounting; the other ports what they had:
---                                          whichever free record is taken
+--     sum-ext, sum-mono, sum-add           sums over one port's records
+--     free-at, free-first                  the record that `freeOf` gives is free, and no free record stands before it
+--     pool-filled, pool-filled-other       in whichever free record a flow begins, port p has one flow more, of that channel, charge and
+--                                          accounting, and the other ports what they had
+--     pool-began, pool-began-other         so in the record that the program takes
 --     pool-ended, pool-ended-other         port p has its flows but the selected ones; the other ports what they had
 --     serves-again                         a record whose flow ended is free
 --     pool-accounted, pool-accounted-other, charges-kept      accounting alone is set, and only of that flow
@@ -13,7 +15,7 @@ use mathlib.Core.Path.{_≡_, refl, sym, ap, _∙_}
 use mathlib.Core.Bool.{Bool, true, false, cond, _&&_, false≢true}
 use mathlib.Core.List.{List}
 use native.Mathlib.Omega.{arith}
-use lib.ListN.{length, getD, set, getD-replicate}
+use lib.ListN.{getD, getD-replicate}
 use lib.Dec.{eqb, ltb}
 use lib.Seq.{getD-set-same, getD-set-other}
 use borrow.Author.Tests.{eqb-true, eqb-false, eq-eqb, ne-eqb, ltb-true, ltb-false}
@@ -22,10 +24,9 @@ use Rattle.rows.specs.Rows.{firstOf}
 use Rattle.rows.specs.declared.Found.{Found}
 use Rattle.rows.specs.declared.Found.the-variants.{At, Nothing}
 use Rattle.rows.proofs.Rows.{FoundAt, found-at, found-none}
-use Rattle.sums.specs.Sums.{sumTo, mapTo}
-use Rattle.sums.proofs.Sums.{sumTo-ext, sumTo-change, sumTo-none}
+use Rattle.sums.proofs.Sums.{sumTo-ext, sumTo-mono, sumTo-add, sumTo-change, sumTo-none}
 use Rattle.sums.proofs.Maps.{mapTo-getD}
-use Rattle.pool.specs.Pool.{isOf, sumOver, recordSum, plain, poolSum, countOf, committedOf, holdsOf, free, orSize, freeIn, freeOf, freshPool, began, isOne, ended, accounted}
+use Rattle.pool.specs.Pool.{isOf, sumOver, recordSum, poolSum, countOf, committedOf, holdsOf, free, orSize, freeIn, freeOf, freshPool, filled, began, isOne, ended, accounted}
 use Rattle.pool.specs.declared.Pool.{Pool}
 use Rattle.pool.proofs.Whole.{Whole}
 
@@ -39,6 +40,30 @@ module _ (pool : Pool) (p : ℕ) where
 
   pub holds-is : (k : ℕ) → holdsOf pool p k ≡ poolSum pool p (λ j c. cond (eqb j k) 1 0)
   holds-is k = refl
+
+-- ---- sums over one port's records
+module _ (owner : List ℕ) (p : ℕ) (f g : ℕ → ℕ) where
+  pub sum-mono : ((i : ℕ) → f i ≤ g i) → sumOver owner p f ≤ sumOver owner p g
+  unfolding sumOver
+  sum-mono h = sumTo-mono (λ i. cond (isOf owner p i) (f i) 0) (λ i. cond (isOf owner p i) (g i) 0) 512 (λ i l. one (isOf owner p i) (h i))
+    where
+      one : {x y : ℕ} (b : Bool) → x ≤ y → cond b x 0 ≤ cond b y 0
+      one true h = h
+      one false h = omega arith
+
+  pub sum-add : sumOver owner p (λ i. f i + g i) ≡ sumOver owner p f + sumOver owner p g
+  unfolding sumOver
+  sum-add =
+      sumTo-ext (λ i. cond (isOf owner p i) (f i + g i) 0) (λ i. cond (isOf owner p i) (f i) 0 + cond (isOf owner p i) (g i) 0) 512 (λ i l. one (isOf owner p i) (f i) (g i))
+      ∙ sumTo-add (λ i. cond (isOf owner p i) (f i) 0) (λ i. cond (isOf owner p i) (g i) 0) 512
+    where
+      one : (b : Bool) (x y : ℕ) → cond b (x + y) 0 ≡ cond b x 0 + cond b y 0
+      one true x y = refl
+      one false x y = refl
+
+  pub sum-ext : ((i : ℕ) → f i ≡ g i) → sumOver owner p f ≡ sumOver owner p g
+  unfolding sumOver
+  sum-ext h = sumTo-ext (λ i. cond (isOf owner p i) (f i) 0) (λ i. cond (isOf owner p i) (g i) 0) 512 (λ i l. ap (λ (x : ℕ). cond (isOf owner p i) x 0) (h i))
 
 -- ---- the free record
 module _ (owner : List ℕ) where
@@ -86,37 +111,47 @@ weight pool w i = w (getD (pool .channel) i 0) (getD (pool .charged) i false) (g
 abbrev part : Pool → ℕ → (ℕ → Bool → ℕ → ℕ) → ℕ → ℕ
 part pool q w i = cond (isOf (pool .owner) q i) (weight pool w i) 0
 
--- ---- a flow begins
-module _ (pool : Pool) (whole : Whole pool) (room : freeOf pool < 512) (p k : ℕ) (c : Bool) (a : ℕ) (w : ℕ → Bool → ℕ → ℕ) where
-  -- every other record is as it was
-  kept : (q j : ℕ) → (j ≡ freeOf pool → ⊥) → part pool q w j ≡ part (began pool p k c a) q w j
-  unfolding began
-  kept q j n =
-      simp (getD-set-other (pool .owner) (freeOf pool) j p 0 n, getD-set-other (pool .channel) (freeOf pool) j k 0 n, getD-set-other (pool .charged) (freeOf pool) j c false n, getD-set-other (pool .accounting) (freeOf pool) j a 0 n)
+-- ---- a flow begins, in any free record
+module _ (pool : Pool) (whole : Whole pool) (i : ℕ) (below : i < 512) (unused : getD (pool .owner) i 0 ≡ free) (p k : ℕ) (c : Bool) (a : ℕ) (w : ℕ → Bool → ℕ → ℕ) where
+  abbrev after : Pool
+  after = filled pool i p k c a
 
-  changed : (q : ℕ) → (q ≡ free → ⊥) → recordSum (began pool p k c a) q w ≡ recordSum pool q w + part (began pool p k c a) q w (freeOf pool)
+  -- every other record is as it was
+  kept : (q j : ℕ) → (j ≡ i → ⊥) → part pool q w j ≡ part after q w j
+  kept q j n =
+      simp (getD-set-other (pool .owner) i j p 0 n, getD-set-other (pool .channel) i j k 0 n, getD-set-other (pool .charged) i j c false n, getD-set-other (pool .accounting) i j a 0 n)
+
+  changed : (q : ℕ) → (q ≡ free → ⊥) → recordSum after q w ≡ recordSum pool q w + part after q w i
   unfolding sumOver
   changed q n =
-      let none : part pool q w (freeOf pool) ≡ 0 = of-other (pool .owner) q (freeOf pool) (weight pool w (freeOf pool)) (λ e. n (sym e ∙ free-at (pool .owner) room)) in
-      omega (arith, sumTo-change (part pool q w) (part (began pool p k c a) q w) 512 (freeOf pool) room (λ j l m. kept q j m))
+      let none : part pool q w i ≡ 0 = of-other (pool .owner) q i (weight pool w i) (λ e. n (sym e ∙ unused)) in
+      omega (arith, sumTo-change (part pool q w) (part after q w) 512 i below (λ j l m. kept q j m))
 
-  now-owner : getD (began pool p k c a .owner) (freeOf pool) 0 ≡ p
-  unfolding began
-  now-owner = getD-set-same (pool .owner) (freeOf pool) p 0 (omega (arith, whole .owner))
+  owner-after : getD (after .owner) i 0 ≡ p
+  owner-after = getD-set-same (pool .owner) i p 0 (omega (arith, whole .owner))
 
-  now-weight : weight (began pool p k c a) w (freeOf pool) ≡ w k c a
-  unfolding began
-  now-weight =
-      let hk = getD-set-same (pool .channel) (freeOf pool) k 0 (omega (arith, whole .channel)) in
-      let hc = getD-set-same (pool .charged) (freeOf pool) c false (omega (arith, whole .charged)) in
-      let ha = getD-set-same (pool .accounting) (freeOf pool) a 0 (omega (arith, whole .accounting)) in
+  weight-after : weight after w i ≡ w k c a
+  weight-after =
+      let hk = getD-set-same (pool .channel) i k 0 (omega (arith, whole .channel)) in
+      let hc = getD-set-same (pool .charged) i c false (omega (arith, whole .charged)) in
+      let ha = getD-set-same (pool .accounting) i a 0 (omega (arith, whole .accounting)) in
       simp (hk, hc, ha)
 
+  pub pool-filled : (p ≡ free → ⊥) → recordSum after p w ≡ recordSum pool p w + w k c a
+  pool-filled n = omega (arith, changed p n, of-port (after .owner) p i (weight after w i) owner-after, weight-after)
+
+  pub pool-filled-other : (q : ℕ) → (q ≡ free → ⊥) → (q ≡ p → ⊥) → recordSum after q w ≡ recordSum pool q w
+  pool-filled-other q n m = omega (arith, changed q n, of-other (after .owner) q i (weight after w i) (λ e. m (sym e ∙ owner-after)))
+
+-- the program's choice is one of them
+module _ (pool : Pool) (whole : Whole pool) (room : freeOf pool < 512) (p k : ℕ) (c : Bool) (a : ℕ) (w : ℕ → Bool → ℕ → ℕ) where
   pub pool-began : (p ≡ free → ⊥) → recordSum (began pool p k c a) p w ≡ recordSum pool p w + w k c a
-  pool-began n = omega (arith, changed p n, of-port (began pool p k c a .owner) p (freeOf pool) (weight (began pool p k c a) w (freeOf pool)) now-owner, now-weight)
+  unfolding began
+  pool-began = pool-filled pool whole (freeOf pool) room (free-at (pool .owner) room) p k c a w
 
   pub pool-began-other : (q : ℕ) → (q ≡ free → ⊥) → (q ≡ p → ⊥) → recordSum (began pool p k c a) q w ≡ recordSum pool q w
-  pool-began-other q n m = omega (arith, changed q n, of-other (began pool p k c a .owner) q (freeOf pool) (weight (began pool p k c a) w (freeOf pool)) (λ e. m (sym e ∙ now-owner)))
+  unfolding began
+  pool-began-other = pool-filled-other pool whole (freeOf pool) room (free-at (pool .owner) room) p k c a w
 
 -- ---- flows end: a record with owner o, of weight x, is freed where it is port p's and selected
 module _ (p q : ℕ) (n : q ≡ free → ⊥) (o x : ℕ) where
@@ -141,7 +176,7 @@ module _ (p q : ℕ) (n : q ≡ free → ⊥) (o x : ℕ) where
       go false e s = refl
 
 module _ (pool : Pool) (p : ℕ) (sel : ℕ → Bool) where
-  owner-ended : (i : ℕ) → i < 512 → getD (ended pool p sel .owner) i 0 ≡ cond (isOne pool p sel i) free (getD (pool .owner) i 0)
+  pub owner-ended : (i : ℕ) → i < 512 → getD (ended pool p sel .owner) i 0 ≡ cond (isOne pool p sel i) free (getD (pool .owner) i 0)
   unfolding ended
   owner-ended i l = mapTo-getD 512 (λ j. cond (isOne pool p sel j) free (getD (pool .owner) j 0)) i 0 l
 

@@ -3,16 +3,15 @@
 --     sum-at                                       a record's part is at most the sum
 --     counts-start, counts-mine, counts-other, counts-end     the count of each port, in one pass
 -- Assumes nothing.
-use Prim.Native.Nat.{ℕ, _+_, _*_, _≤_, _<_}
+use Prim.Native.Nat.{ℕ, _+_, _≤_, _<_}
 use mathlib.Core.Path.{_≡_, refl, sym, ap, _∙_}
 use mathlib.Core.Bool.{Bool, true, false, cond}
 use mathlib.Core.List.{List}
 use native.Mathlib.Omega.{arith}
 use lib.ListN.{getD, set, replicate}
-use lib.Dec.{eqb}
 use borrow.Author.Tests.{eq-eqb, ne-eqb}
 use Rattle.sums.specs.Sums.{sumTo, mapTo}
-use Rattle.sums.proofs.Sums.{sumTo-zero, sumTo-suc, sumTo-at, sumTo-mono, sumTo-const}
+use Rattle.sums.proofs.Sums.{sumTo-zero, sumTo-suc, sumTo-at, sumTo-mono, sumTo-const, test-most}
 use Rattle.sums.proofs.Maps.{mapTo-getD, mapTo-ext, mapTo-const, mapTo-set}
 use Rattle.pool.specs.Pool.{isOf, sumOver, countIn}
 
@@ -61,11 +60,7 @@ countsBefore owner i = mapTo 64 (λ p. sumBefore owner p ones i)
 -- records before i, at most
 pub count-most : (owner : List ℕ) (p i : ℕ) → sumBefore owner p ones i ≤ i
 count-most owner p i =
-    omega (arith, sumTo-mono (λ j. cond (isOf owner p j) 1 0) ones i (λ j l. small (isOf owner p j)), sumTo-const i 1)
-  where
-    small : (b : Bool) → cond b 1 0 ≤ 1
-    small true = omega arith
-    small false = omega arith
+    omega (arith, sumTo-mono (λ j. cond (isOf owner p j) 1 0) ones i (λ j l. test-most (isOf owner p j)), sumTo-const i 1)
 
 module _ (owner : List ℕ) where
   pub counts-start : replicate 64 0 ≡ countsBefore owner 0

@@ -3,14 +3,16 @@
 use Prim.Native.Nat.{ℕ, _-_}
 use mathlib.Core.Bool.{Bool, true, false, cond, _&&_, _||_}
 use mathlib.Core.List.{List}
-use lib.ListN.{getD, set, replicate}
+use lib.ListN.{length, getD, set, take, replicate}
 use lib.Dec.{eqb, ltb}
 use Rattle.channels.specs.Channels.{rateAt}
 use Rattle.rows.specs.Rows.{firstOf}
 use Rattle.rows.specs.declared.Found.{Found}
 use Rattle.rows.specs.declared.Found.the-variants.{At, Nothing}
-use Rattle.sums.specs.Sums.{sumTo, mapTo}
+use Rattle.sums.specs.Sums.{sumTo, mapTo, pickTo}
+use Rattle.octets.specs.Writing.{over}
 use Rattle.pool.specs.declared.Pool.{Pool}
+use Rattle.pool.specs.declared.Rows.{Rows}
 
 -- ---- a port's records, and sums over them
 
@@ -68,8 +70,8 @@ abbrev pub orSize : Found → ℕ
 orSize (At i) = i
 orSize Nothing = 512
 
--- the first free record, or 512 where none is. Which free record is taken is the program's choice; `record-began` and
--- `record-began-other` (proofs/Pools.antt) say what every choice has in common
+-- the first free record, or 512 where none is. Which free record is taken is the program's choice; `pool-filled` and
+-- `pool-filled-other` (proofs/Pools.antt) say what every choice has in common
 unfoldable pub freeIn : List ℕ → ℕ
 freeIn owner = orSize (firstOf 512 (isOf owner free))
 
@@ -77,6 +79,14 @@ freeIn owner = orSize (firstOf 512 (isOf owner free))
 -- definition total
 unfoldable pub roomIn : List ℕ → ℕ → Bool
 roomIn owner p = roomFor (countIn owner p) (extrasIn owner) && ltb (freeIn owner) 512
+
+-- the channels of the port's flows, in the order of the records
+unfoldable pub rowsIn : List ℕ → List ℕ → ℕ → List ℕ
+rowsIn owner channel p = pickTo 512 (isOf owner p) (λ i. getD channel i 0)
+
+-- at most 16 of them, zeros behind: on cards that calls reach no port has more, so that nothing is cut
+unfoldable pub listed : List ℕ → Rows
+listed ks = record { count = length (take 16 ks); rows = over (take 16 ks) (replicate 16 0) }
 
 -- ---- the same of a pool
 
@@ -101,20 +111,27 @@ freeOf pool = freeIn (pool .owner)
 abbrev pub hasRoom : Pool → ℕ → Bool
 hasRoom pool p = roomIn (pool .owner) p
 
+abbrev pub rowsOf : Pool → ℕ → List ℕ
+rowsOf pool p = rowsIn (pool .owner) (pool .channel) p
+
 -- ---- pools
 
 -- "512 flow records, all free at start"
 unfoldable pub freshPool : Pool
 freshPool = record { owner = replicate 512 free; channel = replicate 512 0; charged = replicate 512 false; accounting = replicate 512 0 }
 
--- a flow of channel k begins at port p, in the free record; with none free nothing is written
-unfoldable pub began : Pool → ℕ → ℕ → Bool → ℕ → Pool
-began pool p k c a = record {
-  owner = set (pool .owner) (freeOf pool) p;
-  channel = set (pool .channel) (freeOf pool) k;
-  charged = set (pool .charged) (freeOf pool) c;
-  accounting = set (pool .accounting) (freeOf pool) a;
+-- record i filled with a flow of channel k at port p
+abbrev pub filled : Pool → ℕ → ℕ → ℕ → Bool → ℕ → Pool
+filled pool i p k c a = record {
+  owner = set (pool .owner) i p;
+  channel = set (pool .channel) i k;
+  charged = set (pool .charged) i c;
+  accounting = set (pool .accounting) i a;
 }
+
+-- a flow begins in the free record; with none free nothing is written, there being no record 512
+unfoldable pub began : Pool → ℕ → ℕ → Bool → ℕ → Pool
+began pool p k c a = filled pool (freeOf pool) p k c a
 
 abbrev pub withOwner : Pool → List ℕ → Pool
 withOwner pool o = record { owner = o; channel = pool .channel; charged = pool .charged; accounting = pool .accounting }

@@ -5,7 +5,7 @@ ghost use mathlib.Core.Bool.{_||_};
 ghost use Prim.Native.Nat.{_<_};
 ghost use lib.Dec.{eqb};
 ghost use Rattle.sums.specs.Sums.{mapTo};
-ghost use Rattle.pool.specs.Pool.{countIn, committedIn, activeIn, extrasIn, roomFor, freeIn, roomIn, freshPool, began, ended, endedFlow, endedAll, accounted};
+ghost use Rattle.pool.specs.Pool.{countIn, committedIn, activeIn, extrasIn, freeIn, roomIn, freshPool, began, ended, endedFlow, endedAll, accounted, rowsIn, listed};
 use channels::rate_at;
 
 // No port has this number: a record with it as its owner is free.
@@ -18,6 +18,13 @@ pub struct Pool {
     pub channel: [u8; 512],
     pub charged: [bool; 512],
     pub accounting: [u8; 512],
+}
+
+// The channels of a port's flows: the first `count` of `rows`, and zeros behind them.
+#[repr(C)]
+pub struct Rows {
+    pub count: usize,
+    pub rows: [u8; 16],
 }
 
 impl Pool {
@@ -82,10 +89,8 @@ impl Pool {
     {
         let mut i: usize = 0;
         while i < 512 {
-            if self.owner[i] == p {
-                if self.channel[i] == k {
-                    self.accounting[i] = value;
-                }
+            if self.owner[i] == p && self.channel[i] == k {
+                self.accounting[i] = value;
             }
             i += 1;
         }
@@ -153,6 +158,26 @@ fn wide(x: u32) -> u64
     ensures { λ r. ⌜ (r ≡ x) × (r < 4294967296) ⌝ }
 {
     x as u64
+}
+
+// The channels of the port's flows, in the order of the records.
+pub fn rows_of<'a>(owner: &'a [u8; 512], channel: &'a [u8; 512], p: u8) -> Rows
+    ensures { λ r. ⌜ r ≡ listed (rowsIn (now (owner .entry)) (now (channel .entry)) p) ⌝ }
+{
+    let mut rows = [0u8; 16];
+    let mut count: usize = 0;
+    let mut i: usize = 0;
+    while i < 512 {
+        if owner[i] == p {
+            if 16 <= count {
+                return Rows { count, rows };
+            }
+            rows[count] = channel[i];
+            count += 1;
+        }
+        i += 1;
+    }
+    Rows { count, rows }
 }
 
 // ---- room

@@ -4,10 +4,10 @@
 --     sumTo-add, sumTo-const, sumTo-swap       a sum of sums; one term at each number; two sums, one inside the other
 --     sumTo-change                             only one term differs
 --     sumTo-at, sumTo-none, sumTo-some         a term is at most the sum; no term; a sum that is not 0 has a term that is not
---     one-hot                                  a number is met once among those below a bound
+--     test-most, one-hot                       a test counts 1 at most; a number is met once among those below a bound
 -- Assumes nothing.
 use Prim.Native.Nat.{ℕ, zero, suc, _+_, _*_, _≤_, _<_}
-use mathlib.Core.Path.{_≡_, refl, sym, ap, _∙_}
+use mathlib.Core.Path.{_≡_, refl, sym, ap}
 use mathlib.Core.Bool.{Bool, true, false, cond}
 use mathlib.Core.Logic.{⊎-elim}
 use native.Mathlib.Nat.{eq-or-lt-of-le, le-of-suc-le-suc}
@@ -86,6 +86,11 @@ unfolding sumTo
 sumTo-swap zero n f = sym (sumTo-none n (λ i. 0) (λ q l. refl))
 sumTo-swap (suc m) n f =
     omega (arith, sumTo-swap m n f, sumTo-add (f m) (λ i. sumTo m (λ p. f p i)) n)
+
+-- a test counts 1 at most
+pub test-most : (b : Bool) → cond b 1 0 ≤ 1
+test-most true = omega arith
+test-most false = omega arith
 
 -- a number o is met once among the numbers below n, if it is one of them
 pub one-hot : (n o : ℕ) → sumTo n (λ q. cond (eqb o q) 1 0) ≡ cond (ltb o n) 1 0

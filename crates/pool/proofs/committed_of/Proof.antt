@@ -1,7 +1,7 @@
-use Prim.Native.Nat.{ℕ, _+_, _*_, _≤_, _-_}
-use mathlib.Core.Path.{_≡_, refl, sym, ap, _∙_}
+use Prim.Native.Nat.{ℕ, _*_, _≤_, _-_}
+use mathlib.Core.Path.{_≡_, sym, _∙_}
 use mathlib.Core.Logic.{⊎-elim}
-use mathlib.Core.Bool.{Bool, false, cond}
+use mathlib.Core.Bool.{Bool, true, false, cond}
 use mathlib.Core.List.{List}
 use native.Mathlib.Omega.{arith}
 use lib.ListN.{getD}
@@ -36,8 +36,13 @@ loop-again c =
       omega arith,
       ⊎-elim (λ w. omega (arith, w .5 .ensures .1)) (⊎-elim (λ w. omega arith) (λ w. omega arith)) (c .if1 .came),
       ⊎-elim
-          (λ w. w .6 ∙ sum-mine (a .owner .now) (a .p) f i (w .5 .result) inv (w .0 .taken) (simp (w .2 .taken) (sym (w .5 .ensures .0 ∙ w .4 .ensures))))
-          (⊎-elim (λ w. w .3 ∙ sum-none (a .owner .now) (a .p) f i inv (simp (w .2 .left)))
+          (λ w.
+          let t : getD (a .charged .now) i false ≡ true = w .2 .taken in
+          w .6 ∙ sum-mine (a .owner .now) (a .p) f i (w .5 .result) inv (w .0 .taken) (simp t (sym (w .5 .ensures .0 ∙ w .4 .ensures))))
+          (⊎-elim
+          (λ w.
+          let t : getD (a .charged .now) i false ≡ false = w .2 .left in
+          w .3 ∙ sum-none (a .owner .now) (a .p) f i inv (simp t))
           (λ w. w .1 ∙ sum-other (a .owner .now) (a .p) f i inv (w .0 .left)))
           (c .if1 .came),
     )

@@ -1,10 +1,8 @@
-use Prim.Native.Nat.{ℕ, _+_, _≤_, _<_, _-_}
-use mathlib.Core.Path.{_≡_, refl, sym, ap, _∙_}
+use Prim.Native.Nat.{ℕ, _≤_, _-_}
+use mathlib.Core.Path.{_≡_, _∙_}
 use mathlib.Core.Logic.{⊎-elim}
 use native.Mathlib.Omega.{arith}
-use lib.ListN.{getD, length}
-use Rattle.sums.proofs.Maps.{mapTo-length}
-use Rattle.pool.proofs.Turns.{sumBefore, ones, countsBefore, count-most, counts-start, counts-at, counts-mine, counts-other, counts-end}
+use Rattle.pool.proofs.Turns.{countsBefore, count-most, counts-start, counts-at, counts-mine, counts-other, counts-end}
 use borrow.Author.Needs.{needs}
 use Rattle.pool.proofs.counts_of.Statement.{statement}
 use Rattle.pool.proofs.counts_of.Tie as tie

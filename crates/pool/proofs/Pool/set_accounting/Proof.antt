@@ -1,10 +1,9 @@
-use Prim.Native.Nat.{ℕ, _+_, _≤_, _-_}
-use mathlib.Core.Path.{_≡_, refl, sym, ap, _∙_}
+use Prim.Native.Nat.{ℕ, _≤_, _-_}
+use mathlib.Core.Path.{_≡_, sym, ap, _∙_}
 use mathlib.Core.Logic.{⊎-elim}
 use mathlib.Core.Bool.{Bool}
 use lib.Dec.{eqb}
 use lib.ListN.{getD, set}
-use borrow.Author.Tests.{eq-eqb, ne-eqb}
 use native.Mathlib.Omega.{arith}
 use Rattle.pool.specs.Pool.{withAccounting, isOne, accounted}
 use Rattle.pool.specs.declared.Pool.{Pool}
@@ -36,15 +35,15 @@ loop-again c =
     let inv = h .loop .inv .1 in
     let l = c .before .before .loop-test .taken in
     let own : getD (h .loop .self .owner) i 0 ≡ getD (s .owner) i 0 = ap (λ (x : Pool). getD (x .owner) i 0) inv in
-    let chan : getD (h .loop .self .channel) i 0 ≡ getD (s .channel) i 0 = ap (λ (x : Pool). getD (x .channel) i 0) inv in (
+    let chan : eqb (getD (s .channel) i 0) (a .k) ≡ eqb (getD (h .loop .self .channel) i 0) (a .k) = ap (λ (x : Pool). eqb (getD (x .channel) i 0) (a .k)) (sym inv) in (
       omega arith,
       ⊎-elim
           (λ w.
           w .3 ∙ ap (λ (x : Pool). withAccounting x (set (x .accounting) i (a .value))) inv
-          ∙ ap (withAccounting s) (mark-on (s .accounting) (a .value) test i l (is-one s (a .p) sel i (sym own ∙ w .0 .taken) (eq-eqb (getD (s .channel) i 0) (a .k) (sym chan ∙ w .2 .taken)))))
-          (⊎-elim
-          (λ w. w .3 ∙ inv ∙ ap (withAccounting s) (mark-off (s .accounting) (a .value) test i l (not-selected s (a .p) sel i (ne-eqb (getD (s .channel) i 0) (a .k) (λ z. w .2 .left (chan ∙ z))))))
-          (λ w. w .1 ∙ inv ∙ ap (withAccounting s) (mark-off (s .accounting) (a .value) test i l (not-port s (a .p) sel i (λ z. w .0 .left (own ∙ z))))))
+          ∙ ap (withAccounting s) (mark-on (s .accounting) (a .value) test i l (is-one s (a .p) sel i (sym own ∙ w .0 .taken) (chan ∙ w .2 .taken))))
+          (λ w.
+          w .1 ∙ inv ∙ ap (withAccounting s) (mark-off (s .accounting) (a .value) test i l
+          (⊎-elim (λ v. not-selected s (a .p) sel i (chan ∙ v .2 .left)) (λ v. not-port s (a .p) sel i (λ z. v .left (own ∙ z))) (w .0 .came))))
           (c .if1 .came),
     )
 
