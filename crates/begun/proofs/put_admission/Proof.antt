@@ -1,58 +1,43 @@
+use mathlib.Core.Path.{_≡_, sym, _∙_}
+use mathlib.Core.List.{List, _++_}
+use Prim.Native.Nat.{ℕ, _+_}
+use native.Mathlib.Omega.{arith}
+use lib.ListN.{length, length-append}
+use Rattle.header.proofs.Messages.{message-by, length-message}
+use Rattle.writers.specs.Tlvs.{targetOf, commandOf}
+use Rattle.writers.proofs.Tlvs.{length-target}
+use Rattle.flow_octets.specs.FlowOctets.{flowTlv}
+use Rattle.replies.specs.Replies.{beginHeader}
+use Rattle.begun.specs.Begun.{admissionOf}
+use Rattle.begun.proofs.Sizes.{sized, length-add}
 use borrow.Author.Needs.{needs}
 use Rattle.begun.proofs.put_admission.Statement.{statement}
 use Rattle.begun.proofs.put_admission.Tie as tie
-use Rattle.begun.proofs.put_admission.Reads as reads
-use Rattle.begun.proofs.put_admission.Lts as lts
-use Rattle.begun.proofs.put_target_add.Reads as put-target-add-reads
-use Rattle.header.proofs.put_header.Reads as put-header-reads
-use Rattle.replies.proofs.begin_header.Reads as begin-header-reads
 
--- src/lib.rt:16:28
-sub-put-target-add : tie.Need-sub-put-target-add
-sub-put-target-add c = search needs
-
--- src/lib.rt:16:28
-part-put-target-add-start : tie.Need-part-put-target-add-start
-part-put-target-add-start c = search needs
-
--- src/lib.rt:16:28
-part-put-target-add-end : tie.Need-part-put-target-add-end
-part-put-target-add-end c = search needs
-
--- src/lib.rt:16:9
-put-target-add-requires : tie.Need-put-target-add-requires
-put-target-add-requires c κs = search needs
-
--- src/lib.rt:17:31
-begin-header-requires : tie.Need-begin-header-requires
-begin-header-requires c κs = search needs
-
--- src/lib.rt:17:5
 put-header-requires : tie.Need-put-header-requires
-put-header-requires c κs = ?
+put-header-requires c κs = (omega arith, omega (arith, length-target (c .before .before .before .before .before .before .before .before .args .id .now), length-add (c .before .before .before .before .before .before .before .before .args .f), sized (c .before .before .before .before .before .before .before .before .args .f) .most, length-append (targetOf (c .before .before .before .before .before .before .before .before .args .id .now)) (commandOf 1 0 (flowTlv (c .before .before .before .before .before .before .before .before .args .f))), c .before .before .before .before .put-target-add .ensures .size, c .before .before .before .before .before .before .before .before .pre))
 
--- src/lib.rt:18:5
 add-result : tie.Need-add-result
-add-result c = ?
+add-result c = omega (arith, length-target (c .before .before .before .before .before .before .before .before .before .before .before .args .id .now), length-add (c .before .before .before .before .before .before .before .before .before .before .before .args .f), sized (c .before .before .before .before .before .before .before .before .before .before .before .args .f) .most, length-append (targetOf (c .before .before .before .before .before .before .before .before .before .before .before .args .id .now)) (commandOf 1 0 (flowTlv (c .before .before .before .before .before .before .before .before .before .before .before .args .f))), c .before .before .before .before .before .before .before .put-target-add .ensures .size, c .before .before .before .before .before .before .before .before .before .before .before .pre)
 
--- src/lib.rt:12:1
-same-length : tie.Need-same-length
-same-length c = search needs
-
--- src/lib.rt:12:1
 returns : tie.Need-returns
-returns c = ?
+unfolding admissionOf
+returns c = let a = c .before .before .before .before .before .before .before .before .before .before .before .args in let w : List ℕ = targetOf (a .id .now) ++ commandOf 1 0 (flowTlv (a .f)) in
+    record {
+      size = omega (arith, c .before .before .before .before .before .before .before .put-target-add .ensures .size, length-message (beginHeader 145 (a .transaction)) w);
+      text = message-by (beginHeader 145 (a .transaction)) w (a .reply .now) _ (c .before .before .before .before .before .before .before .put-target-add .ensures .size) (omega arith) (c .before .before .before .before .before .before .before .put-target-add .ensures .text) (rw (c .before .before .before .begin-header .ensures) at (c .before .before .put-header .ensures));
+    }
 
 pub put-admission-spec : {M : Type 1} → statement M
 put-admission-spec =
     tie.close
     (tie.spec
-    sub-put-target-add
-    part-put-target-add-start
-    part-put-target-add-end
-    put-target-add-requires
-    begin-header-requires
+    (λ c. search needs)
+    (λ c. search needs)
+    (λ c. search needs)
+    (λ c κs. search needs)
+    (λ c κs. search needs)
     put-header-requires
     add-result
-    same-length
+    (λ c. search needs)
     returns)

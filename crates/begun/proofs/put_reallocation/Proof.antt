@@ -1,58 +1,41 @@
+use mathlib.Core.Path.{_≡_, sym, _∙_}
+use mathlib.Core.List.{List, _++_}
+use Prim.Native.Nat.{ℕ, _+_}
+use native.Mathlib.Omega.{arith}
+use lib.ListN.{length, length-append}
+use Rattle.header.proofs.Messages.{message-by, length-message}
+use Rattle.writers.specs.Tlvs.{targetOf, requestOf}
+use Rattle.writers.proofs.Tlvs.{length-target, length-request}
+use Rattle.replies.specs.Replies.{beginHeader}
+use Rattle.begun.specs.Begun.{reallocationOf}
 use borrow.Author.Needs.{needs}
 use Rattle.begun.proofs.put_reallocation.Statement.{statement}
 use Rattle.begun.proofs.put_reallocation.Tie as tie
-use Rattle.begun.proofs.put_reallocation.Reads as reads
-use Rattle.begun.proofs.put_reallocation.Lts as lts
-use Rattle.begun.proofs.put_target_request.Reads as put-target-request-reads
-use Rattle.header.proofs.put_header.Reads as put-header-reads
-use Rattle.replies.proofs.begin_header.Reads as begin-header-reads
 
--- src/lib.rt:44:32
-sub-put-target-request : tie.Need-sub-put-target-request
-sub-put-target-request c = search needs
-
--- src/lib.rt:44:32
-part-put-target-request-start : tie.Need-part-put-target-request-start
-part-put-target-request-start c = search needs
-
--- src/lib.rt:44:32
-part-put-target-request-end : tie.Need-part-put-target-request-end
-part-put-target-request-end c = search needs
-
--- src/lib.rt:44:9
-put-target-request-requires : tie.Need-put-target-request-requires
-put-target-request-requires c κs = search needs
-
--- src/lib.rt:45:31
-begin-header-requires : tie.Need-begin-header-requires
-begin-header-requires c κs = search needs
-
--- src/lib.rt:45:5
 put-header-requires : tie.Need-put-header-requires
-put-header-requires c κs = ?
+put-header-requires c κs = (omega arith, omega (arith, length-target (c .before .before .before .before .before .before .before .before .args .id .now), length-request (c .before .before .before .before .before .before .before .before .args .required) (c .before .before .before .before .before .before .before .before .args .preferred), length-append (targetOf (c .before .before .before .before .before .before .before .before .args .id .now)) (requestOf (c .before .before .before .before .before .before .before .before .args .required) (c .before .before .before .before .before .before .before .before .args .preferred)), c .before .before .before .before .put-target-request .ensures .size, c .before .before .before .before .before .before .before .before .pre))
 
--- src/lib.rt:46:5
 add-result : tie.Need-add-result
-add-result c = ?
+add-result c = omega (arith, length-target (c .before .before .before .before .before .before .before .before .before .before .before .args .id .now), length-request (c .before .before .before .before .before .before .before .before .before .before .before .args .required) (c .before .before .before .before .before .before .before .before .before .before .before .args .preferred), length-append (targetOf (c .before .before .before .before .before .before .before .before .before .before .before .args .id .now)) (requestOf (c .before .before .before .before .before .before .before .before .before .before .before .args .required) (c .before .before .before .before .before .before .before .before .before .before .before .args .preferred)), c .before .before .before .before .before .before .before .put-target-request .ensures .size, c .before .before .before .before .before .before .before .before .before .before .before .pre)
 
--- src/lib.rt:40:1
-same-length : tie.Need-same-length
-same-length c = search needs
-
--- src/lib.rt:40:1
 returns : tie.Need-returns
-returns c = ?
+unfolding reallocationOf
+returns c = let a = c .before .before .before .before .before .before .before .before .before .before .before .args in let w : List ℕ = targetOf (a .id .now) ++ requestOf (a .required) (a .preferred) in
+    record {
+      size = omega (arith, c .before .before .before .before .before .before .before .put-target-request .ensures .size, length-message (beginHeader 146 (a .transaction)) w);
+      text = message-by (beginHeader 146 (a .transaction)) w (a .reply .now) _ (c .before .before .before .before .before .before .before .put-target-request .ensures .size) (omega arith) (c .before .before .before .before .before .before .before .put-target-request .ensures .text) (rw (c .before .before .before .begin-header .ensures) at (c .before .before .put-header .ensures));
+    }
 
 pub put-reallocation-spec : {M : Type 1} → statement M
 put-reallocation-spec =
     tie.close
     (tie.spec
-    sub-put-target-request
-    part-put-target-request-start
-    part-put-target-request-end
-    put-target-request-requires
-    begin-header-requires
+    (λ c. search needs)
+    (λ c. search needs)
+    (λ c. search needs)
+    (λ c κs. search needs)
+    (λ c κs. search needs)
     put-header-requires
     add-result
-    same-length
+    (λ c. search needs)
     returns)
