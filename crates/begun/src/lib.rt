@@ -37,7 +37,13 @@ fn put_add(buf: &mut [u8], f: Flow) -> usize
     8 + n
 }
 
-pub fn put_reallocation(reply: &mut [u8], transaction: u32, id: &[u8], required: u32, preferred: u32) -> usize
+pub fn put_reallocation(
+    reply: &mut [u8],
+    transaction: u32,
+    id: &[u8],
+    required: u32,
+    preferred: u32,
+) -> usize
     requires { ⌜ (4608 ≤ length (now reply)) × (length (now id) < 64) ⌝ }
     ensures { λ r. ⌜ Wrote (reallocationOf transaction (now (id .entry)) required preferred) r (now (reply .entry)) (now (reply .exit)) ⌝ }
 {

@@ -11,7 +11,15 @@ ghost use Rattle.card.specs.Outcome.{doneOf, Ends};
 ghost use Rattle.joins.specs.Joins.{fits, admitNumber, whiteOf, greyOf, joinRow, joinOf};
 ghost use Rattle.joins.specs.Asks.{askedOf, askOf};
 
-pub fn join(card: Card, ids: &[u8; 4096], channels: &[u32; 2816], entries: &[u32; 1536], p: usize, f: Flow, reply: &mut [u8]) -> Done
+pub fn join(
+    card: Card,
+    ids: &[u8; 4096],
+    channels: &[u32; 2816],
+    entries: &[u32; 1536],
+    p: usize,
+    f: Flow,
+    reply: &mut [u8],
+) -> Done
     ensures { λ r. ⌜ Ends (joinOf (now (ids .entry)) (now (channels .entry)) (now (entries .entry)) card p f (length (now (reply .entry)))) r (now (reply .entry)) (now (reply .exit)) ⌝ }
 {
     if reply.len() < 4608 {
@@ -34,7 +42,16 @@ pub fn join(card: Card, ids: &[u8; 4096], channels: &[u32; 2816], entries: &[u32
     }
 }
 
-fn join_channel(card: Card, ids: &[u8; 4096], channels: &[u32; 2816], entries: &[u32; 1536], p: u8, f: Flow, k: u8, reply: &mut [u8]) -> Done
+fn join_channel(
+    card: Card,
+    ids: &[u8; 4096],
+    channels: &[u32; 2816],
+    entries: &[u32; 1536],
+    p: u8,
+    f: Flow,
+    k: u8,
+    reply: &mut [u8],
+) -> Done
     requires { ⌜ (4608 ≤ length (now reply)) × (p < 64) ⌝ }
     ensures { λ r. ⌜ Ends (joinRow (now (ids .entry)) (now (channels .entry)) (now (entries .entry)) card p f (Found.At k)) r (now (reply .entry)) (now (reply .exit)) ⌝ }
 {
@@ -114,7 +131,14 @@ fn join_grey(card: Card, ids: &[u8; 4096], p: u8, f: Flow, reply: &mut [u8]) -> 
     }
 }
 
-pub fn ask(card: Card, ids: &[u8; 4096], p: usize, required: u32, preferred: u32, reply: &mut [u8]) -> Done
+pub fn ask(
+    card: Card,
+    ids: &[u8; 4096],
+    p: usize,
+    required: u32,
+    preferred: u32,
+    reply: &mut [u8],
+) -> Done
     ensures { λ r. ⌜ Ends (askOf (now (ids .entry)) card p required preferred (length (now (reply .entry)))) r (now (reply .entry)) (now (reply .exit)) ⌝ }
 {
     if reply.len() < 4608 {
@@ -133,7 +157,14 @@ pub fn ask(card: Card, ids: &[u8; 4096], p: usize, required: u32, preferred: u32
     open_request(card, ids, p, required, preferred, reply)
 }
 
-fn open_request(card: Card, ids: &[u8; 4096], p: usize, required: u32, preferred: u32, reply: &mut [u8]) -> Done
+fn open_request(
+    card: Card,
+    ids: &[u8; 4096],
+    p: usize,
+    required: u32,
+    preferred: u32,
+    reply: &mut [u8],
+) -> Done
     requires { ⌜ (4608 ≤ length (now reply)) × (p < 64) ⌝ }
     ensures { λ r. ⌜ Ends (askedOf (now (ids .entry)) card p required preferred) r (now (reply .entry)) (now (reply .exit)) ⌝ }
 {
@@ -144,7 +175,13 @@ fn open_request(card: Card, ids: &[u8; 4096], p: usize, required: u32, preferred
     let x = c.ports[p];
     c.ports[p] = x.ask(required, preferred, taken.number);
     c.counter = next;
-    let n = begun::put_reallocation(reply, taken.number, circuits::id_at(ids, p as u8), required, preferred);
+    let n = begun::put_reallocation(
+        reply,
+        taken.number,
+        circuits::id_at(ids, p as u8),
+        required,
+        preferred,
+    );
     Done {
         card: c,
         number: 0,
