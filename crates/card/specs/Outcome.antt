@@ -21,6 +21,10 @@ keeps card number = record { card = card; number = number; reply = [] }
 abbrev pub becomes : Card → Outcome
 becomes card = record { card = card; number = 0; reply = [] }
 
+-- done, with a reply
+abbrev pub writes : Card → List ℕ → Outcome
+writes card w = record { card = card; number = 0; reply = w }
+
 -- what a function that comes to an outcome returns
 abbrev pub doneOf : Outcome → Done
 doneOf o = record { card = o .card; number = o .number; length = length (o .reply) }

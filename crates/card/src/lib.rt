@@ -129,6 +129,17 @@ pub fn kept(card: Card, number: u8) -> Done
     }
 }
 
+// Done, with a reply of n octets.
+pub fn written(card: Card, n: usize) -> Done
+    ensures { λ r. ⌜ r ≡ record { card = card; number = 0; length = n } ⌝ }
+{
+    Done {
+        card,
+        number: 0,
+        length: n,
+    }
+}
+
 pub fn is_port(count: usize, p: usize) -> bool
     ensures test { λ r. ⌜ r ≡ isPort count p ⌝ }
     ensures inside { λ r. ⌜ (r ≡ true → p < 64) ⌝ }

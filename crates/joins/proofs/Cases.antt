@@ -1,6 +1,6 @@
 -- The cases of join and ask, each from the tests that lead to it. Assumes nothing.
 use mathlib.Core.Path.{_≡_, refl, sym, ap, _∙_}
-use mathlib.Core.Bool.{Bool, true, false, cond}
+use mathlib.Core.Bool.{true, false, cond}
 use mathlib.Core.List.{List, []}
 use Prim.Native.Nat.{ℕ}
 use lib.Dec.{eqb, ltb}
@@ -16,6 +16,7 @@ use Rattle.ports.specs.Ports.{mayAsk}
 use Rattle.card.specs.declared.Card.{Card}
 use Rattle.card.specs.Cards.{hasPort, portAt, withPool}
 use Rattle.card.specs.Outcome.{Outcome, keeps, becomes}
+use Rattle.card.proofs.Ends.{silent-by}
 use Rattle.joins.specs.Joins.{admitNumber, whiteOf, byList, joinRow, joinOf}
 use Rattle.joins.specs.Asks.{askedOf, askOf}
 
@@ -105,10 +106,6 @@ module _ (ids : List ℕ) (card : Card) (p required preferred room : ℕ) where
         ask-on h = taken (mayAsk (portAt card p) required preferred) (askedOf ids card p required preferred) (keeps card 12) h ∙ check-on card p room may full port is-up ∙ ask-is
 
 -- ---- a flow of channel k
-silent-by : (b : Bool) (x y : Outcome) → x .reply ≡ [] → y .reply ≡ [] → cond b x y .reply ≡ []
-silent-by true x y hx hy = hx
-silent-by false x y hx hy = hy
-
 pub white-silent : (channels : List ℕ) (card : Card) (p k : ℕ) → whiteOf channels card p k .reply ≡ []
 unfolding whiteOf
 white-silent channels card p k =

@@ -1,10 +1,8 @@
 -- What a call comes to that writes a message. Assumes nothing.
-use mathlib.Core.Path.{_≡_, refl, sym, ap, ap₂, subst, _∙_}
-use mathlib.Core.List.{List, []}
+use mathlib.Core.Path.{_≡_, sym, ap, ap₂, subst, _∙_}
+use mathlib.Core.List.{List}
 use Prim.Native.Nat.{ℕ}
-use lib.ListN.{length}
-use Rattle.octets.specs.Writing.{over, Wrote}
-use Rattle.octets.proofs.Writing.{over-none}
+use Rattle.octets.specs.Writing.{Wrote}
 use Rattle.flows.specs.declared.Flow.{Flow}
 use Rattle.circuits.specs.Circuits.{idAt}
 use Rattle.ports.specs.declared.Port.{Port}
@@ -13,22 +11,11 @@ use Rattle.ports.specs.Ports.{asked}
 use Rattle.ports.specs.Transactions.{takenFrom}
 use Rattle.begun.specs.Begun.{admissionOf, reallocationOf}
 use Rattle.card.specs.declared.Card.{Card}
-use Rattle.card.specs.declared.Done.{Done}
 use Rattle.card.specs.Cards.{portAt, withPort}
-use Rattle.card.specs.Outcome.{Outcome, keeps, doneOf, Ends}
+use Rattle.card.specs.Outcome.{Ends}
+use Rattle.card.proofs.Ends.{ends-wrote, made}
 use Rattle.joins.specs.Joins.{withCounter, greyOf}
 use Rattle.joins.specs.Asks.{askedOf}
-
--- nothing is written: the number and the card alone
-pub ends-kept : {o : Outcome} {r : Done} (card : Card) (n : ℕ) (b : List ℕ) → r ≡ doneOf (keeps card n) → keeps card n ≡ o → Ends o r b b
-ends-kept {r = r} card n b e k = subst (λ (x : Outcome). Ends x r b b) k (record { gives = e; text = over-none b })
-
-abbrev made : Card → ℕ → ℕ → Done
-made card number n = record { card = card; number = number; length = n }
-
-ends-wrote : (card : Card) (number : ℕ) {w before after : List ℕ} {n : ℕ} → Wrote w n before after
-    → Ends (record { card = card; number = number; reply = w }) (made card number n) before after
-ends-wrote card number h = record { gives = ap (made card number) (h .size); text = h .text }
 
 -- t is what the counter gave, and id the port's circuit id
 module _ (ids : List ℕ) (card : Card) (p : ℕ) {t : Taken} {id : List ℕ} {n : ℕ} {before after : List ℕ}
@@ -51,12 +38,3 @@ module _ (ids : List ℕ) (card : Card) (p : ℕ) {t : Taken} {id : List ℕ} {n
       subst (λ (c : Card). Ends (askedOf ids card p required preferred) (made c 0 n) before after)
       (sym (ap₂ (λ (y : Port) (u : Taken). withCounter (withPort card p y) (u .next)) ep et))
       (ends-wrote _ 0 (subst (λ (w : List ℕ). Wrote w n before after) e h))
-
--- an outcome without a reply
-pub ends-silent : {o q : Outcome} {r : Done} (b : List ℕ) → r ≡ doneOf q → q .reply ≡ [] → q ≡ o → Ends o r b b
-ends-silent {r = r} b e s k =
-    subst (λ (x : Outcome). Ends x r b b) k (record { gives = e; text = over-none b ∙ ap (λ (w : List ℕ). over w b) (sym s) })
-
--- what another call came to
-pub ends-as : {o q : Outcome} {r : Done} {before after : List ℕ} → Ends q r before after → q ≡ o → Ends o r before after
-ends-as {o} {q} {r} {before} {after} h k = subst (λ (x : Outcome). Ends x r before after) k h

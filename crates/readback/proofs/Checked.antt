@@ -37,7 +37,7 @@ unfolding insideOk insideOf entered
 bare-passes d t = stands d true t [] refl
 
 -- a TLV that stands alone
-alone : (d : ℕ) (b : Bool) (w : List ℕ) → Stands d b w → listOk d b w ≡ true
+pub alone : (d : ℕ) (b : Bool) (w : List ℕ) → Stands d b w → listOk d b w ≡ true
 alone d b w f = ap (listOk d b) (sym (append-nil w)) ∙ f [] (none-passes d b)
 
 target-passes : (d : ℕ) (b : Bool) (id : List ℕ) → Stands (suc (suc d)) b (targetOf id)

@@ -7,7 +7,7 @@ use lib.Dec.{ltb}
 use borrow.Author.Tests.{not-true, not-false, lt-ltb, le-ltb}
 use Rattle.ports.specs.Ports.{mayAsk}
 use Rattle.card.specs.Cards.{hasPort, portAt}
-use Rattle.joins.proofs.Written.{ends-kept, ends-as}
+use Rattle.card.proofs.Ends.{ends-kept, ends-as}
 use Rattle.joins.proofs.Cases.{ask-13, ask-7, ask-6, ask-12, ask-on}
 use borrow.Author.Needs.{needs}
 use Rattle.joins.proofs.ask.Statement.{statement}

@@ -9,7 +9,7 @@ use Rattle.flows.specs.Flows.{goodFlow}
 use Rattle.rows.specs.declared.Found.{Found}
 use Rattle.card.specs.Cards.{hasPort, portAt}
 use Rattle.joins.specs.Joins.{joinRow}
-use Rattle.joins.proofs.Written.{ends-kept, ends-as}
+use Rattle.card.proofs.Ends.{ends-kept, ends-as}
 use Rattle.joins.proofs.Cases.{join-13, join-7, join-6, join-8, join-row}
 use borrow.Author.Needs.{needs}
 use Rattle.joins.proofs.join.Statement.{statement}

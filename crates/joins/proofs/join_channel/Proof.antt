@@ -4,7 +4,7 @@ use mathlib.Core.List.{List}
 use Prim.Native.Nat.{ℕ}
 use Rattle.pool.specs.Pool.{isActive}
 use Rattle.joins.specs.Joins.{byList}
-use Rattle.joins.proofs.Written.{ends-kept, ends-silent, ends-as}
+use Rattle.card.proofs.Ends.{ends-kept, ends-silent, ends-as}
 use Rattle.joins.proofs.Cases.{white-silent, row-1, row-list}
 use borrow.Author.Needs.{needs}
 use Rattle.joins.proofs.join_channel.Statement.{statement}

@@ -1,0 +1,193 @@
+/* Whole calls of the card: a join against a plain C version on the same arrays, messages of growing size, and how much stack a call takes.
+   Build and run: bench/run */
+#include "card.h"
+#include <pthread.h>
+#include <stdio.h>
+#include <string.h>
+#include <time.h>
+
+static uint8_t ids[4096], reply[4608];
+static uint32_t channels[2816], entries[1536];
+
+static double now(void) { struct timespec t; clock_gettime(CLOCK_MONOTONIC, &t); return t.tv_sec * 1e9 + t.tv_nsec; }
+
+static flow nth(unsigned k) { flow f = {1, 0, {0xE9000000u + k, 0, 0, 0}, {0, 0, 0, 0}}; return f; }
+
+/* 64 ports of one octet each, 256 channels of rate 1, 128 entries of which the last is white for all groups */
+static card fresh(bool add) {
+    for (unsigned p = 0; p < 64; p++) { ids[p * 64] = 1; ids[p * 64 + 1] = (uint8_t)(p + 1); }
+    for (unsigned k = 0; k < 256; k++) { uint32_t *r = channels + k * 11; r[0] = 1; r[2] = 1; r[3] = nth(k).group[0]; }
+    for (unsigned i = 0; i < 128; i++) { uint32_t *e = entries + i * 12; e[0] = 1; e[1] = 1; e[2] = i == 127 ? 4 : 32; e[4] = i == 127 ? 0xE0000000u : 0xEF000000u + i; }
+    card c = speed_start(ids, 64, channels, 256, entries, 128, true, add, 1).card;
+    for (size_t p = 0; p < 64; p++) { c = speed_up(c, p).card; c = speed_delegation(c, channels, p, 1000000).card; }
+    return c;
+}
+
+/* 256 extras: 16 flows on 21 ports, 8 on the next, 4 on the others but the last, which has 3 */
+static card filled(bool add) {
+    card c = fresh(add);
+    for (size_t p = 0; p < 64; p++)
+        for (unsigned k = 0; k < (p < 21 ? 16u : p == 21 ? 8u : p == 63 ? 3u : 4u); k++)
+            c = speed_join(c, ids, channels, entries, p, nth(k), reply, sizeof reply).card;
+    return c;
+}
+
+/* the same join, plainly: on the card in place, without its reply */
+static bool same(const flow *a, const uint32_t *r) { return r[0] == a->family && r[1] == a->sourced && !memcmp(r + 3, a->group, 16) && !memcmp(r + 7, a->source, 16); }
+
+static int prefix(uint32_t n, const uint32_t *a, const uint32_t *b) {
+    for (int w = 0; w < 4 && n; w++) {
+        uint32_t k = n < 32 ? n : 32;
+        if ((a[w] ^ b[w]) >> (32 - k)) return 0;
+        n -= k;
+    }
+    return 1;
+}
+
+__attribute__((noinline)) static int plain_join(card *c, size_t p, const flow *f) {
+    if (p >= c->port_count) return 7;
+    if (!c->ports[p].up) return 6;
+    size_t k = 0;
+    while (k < c->channel_count && !same(f, channels + k * 11)) k++;
+    if (k == c->channel_count) return 9;
+    for (int i = 0; i < 512; i++) if (c->pool.owner[i] == p && c->pool.channel[i] == k) return 1;
+    static const uint32_t strength[4] = {0, 1, 3, 2};
+    uint32_t best = 0;
+    for (size_t i = 0; i < c->entry_count; i++) {
+        const uint32_t *e = entries + i * 12;
+        if (e[0] != f->family || !prefix(e[2], e + 4, f->group) || e[3] != 0) continue;
+        uint32_t s = e[2] * 4 + strength[e[1] & 3];
+        if (s > best) best = s;
+    }
+    if (best % 4 != 1) return 3;
+    unsigned count[64] = {0}, extras = 0;
+    uint64_t sum = 0;
+    int unused = 512;
+    for (int i = 0; i < 512; i++) {
+        uint8_t o = c->pool.owner[i];
+        if (o < 64) { count[o]++; if (o == p && c->pool.charged[i]) sum += channels[c->pool.channel[i] * 11 + 2]; }
+        else if (unused == 512) unused = i;
+    }
+    for (int q = 0; q < 64; q++) if (count[q] > 4) extras += count[q] - 4;
+    if (unused == 512 || !(count[p] < 4 || (count[p] < 16 && extras < 256))) return 5;
+    if (c->white_cac && sum + channels[k * 11 + 2] > c->ports[p].delegation) return 4;
+    c->pool.owner[unused] = (uint8_t)p; c->pool.channel[unused] = (uint8_t)k; c->pool.charged[unused] = c->white_cac; c->pool.accounting[unused] = 0;
+    return 0;
+}
+
+static void joins(void) {
+    static card c, d;
+    c = filled(false);
+    flow first = nth(3), last = nth(255);
+    const flow *which[2] = {&first, &last};
+    for (int i = 0; i < 2; i++) {
+        int rounds = 20000, a = 0, b = 0;
+        double t0 = now();
+        for (int r = 0; r < rounds; r++) a += speed_join(c, ids, channels, entries, 63, *which[i], reply, sizeof reply).number;
+        double t1 = now();
+        for (int r = 0; r < rounds; r++) { d = c; b += plain_join(&d, 63, which[i]); }
+        double t2 = now();
+        printf("join, %s channel, full pool: proved %.0f ns, plain C with the card copied once %.0f ns%s\n", i ? "last" : "fourth", (t1 - t0) / rounds, (t2 - t1) / rounds, a == b ? "" : " DIFFERENT");
+    }
+}
+
+/* ---- messages */
+static size_t put16(uint8_t *m, size_t n, unsigned x) { m[n] = (uint8_t)(x >> 8); m[n + 1] = (uint8_t)x; return n + 2; }
+
+static size_t head(uint8_t *m, unsigned kind, unsigned result) { memset(m, 0, 16); m[0] = 0x88; m[1] = 0x0C; m[4] = 0x32; m[5] = (uint8_t)kind; m[6] = (uint8_t)(result << 4); m[12] = 0x80; m[13] = 1; return 16; }
+
+static size_t target(uint8_t *m, size_t n, unsigned p) { n = put16(m, n, 0x1000); n = put16(m, n, 8); n = put16(m, n, 1); n = put16(m, n, 1); m[n] = (uint8_t)(p + 1); m[n + 1] = m[n + 2] = m[n + 3] = 0; return n + 4; }
+
+static size_t command(uint8_t *m, size_t n, unsigned code, flow f) {
+    n = put16(m, n, 0x11); n = put16(m, n, 16); m[n] = (uint8_t)code; m[n + 1] = m[n + 2] = m[n + 3] = 0; n += 4;
+    n = put16(m, n, 0x19); n = put16(m, n, 8); m[n] = 1; m[n + 1] = 1; n = put16(m, n + 2, 0);
+    n = put16(m, n, f.group[0] >> 16);
+    return put16(m, n, f.group[0] & 0xFFFF);
+}
+
+static size_t close16(uint8_t *m, size_t n) { put16(m, 2, (unsigned)(n - 4)); put16(m, 14, (unsigned)(n - 4)); return n; }
+
+static double measure(const char *what, const card *c, const uint8_t *m, size_t n) {
+    int rounds = 4000;
+    unsigned answer = 0;
+    size_t length = 0;
+    double t0 = now();
+    for (int r = 0; r < rounds; r++) { done d = speed_message(*c, ids, channels, m, n, reply, sizeof reply); answer = d.number; length = d.length; }
+    double ns = (now() - t0) / rounds;
+    printf("%-50s %8.0f ns   (answer %u, reply of %zu octets)\n", what, ns, answer, length);
+    return ns;
+}
+
+static void messages(void) {
+    static uint8_t m[4096];
+    static card c;
+    c = filled(true);
+    double ten = 0;
+    for (unsigned count = 1; count <= 100; count *= 10) {
+        char what[64];
+        size_t n = target(m, head(m, 144, 1), 0);
+        for (unsigned i = 0; i < count; i++) n = command(m, n, 1, nth(i % 16));
+        snprintf(what, sizeof what, "144, %u repeated Adds", count);
+        double ns = measure(what, &c, m, close16(m, n));
+        if (count == 10) ten = ns;
+        if (count == 100) printf("  100 commands to 10: %.1f\n", ns / ten);
+    }
+    for (unsigned count = 10; count <= 100; count *= 10) {
+        char what[64];
+        size_t n = target(m, head(m, 144, 1), 0);
+        for (unsigned i = 0; i < count; i++) n = command(m, n, i % 2 ? 1 : 2, nth(15));
+        snprintf(what, sizeof what, "144, %u commands, Delete and Add by turns", count);
+        double ns = measure(what, &c, m, close16(m, n));
+        if (count == 10) ten = ns;
+        if (count == 100) printf("  100 commands to 10: %.1f\n", ns / ten);
+    }
+    size_t n = target(m, head(m, 148, 2), 0);
+    measure("148", &c, m, close16(m, n));
+    head(m, 149, 2);
+    measure("149, 16 flows", &c, m, close16(m, n));
+    double small = 0;
+    for (size_t size = 400; size <= 4096; size += 3696) {
+        char what[64];
+        n = target(m, head(m, 148, 2), 0);
+        while (n + 4 <= size) { n = put16(m, n, 0x7777); n = put16(m, n, 0); }
+        snprintf(what, sizeof what, "148 among unknown TLVs, %zu octets", n);
+        double ns = measure(what, &c, m, close16(m, n));
+        if (size == 400) small = ns; else printf("  4,096 octets to 400: %.1f\n", ns / small);
+    }
+}
+
+/* ---- stack: a painted stack of its own for one call */
+static void *deep(void *unused) {
+    static uint8_t m[4096];
+    static card c;
+    static done d;
+    (void)unused;
+    c = filled(true);
+    size_t n = target(m, head(m, 144, 2), 0);
+    for (unsigned i = 0; i < 100; i++) n = command(m, n, i % 2 ? 1 : 2, nth(15));
+    n = command(m, n, 1, nth(200));
+    d = speed_message(c, ids, channels, m, close16(m, n), reply, sizeof reply);
+    d = speed_join(c, ids, channels, entries, 63, nth(255), reply, sizeof reply);
+    return d.number ? NULL : &d;
+}
+
+static void stack(void) {
+    static uint8_t space[1 << 18] __attribute__((aligned(4096)));
+    pthread_attr_t a;
+    pthread_t t;
+    memset(space, 0xA5, sizeof space);
+    pthread_attr_init(&a);
+    pthread_attr_setstack(&a, space, sizeof space);
+    if (pthread_create(&t, &a, deep, NULL)) return;
+    pthread_join(t, NULL);
+    size_t i = 0;
+    while (i < sizeof space && space[i] == 0xA5) i++;
+    printf("stack of the deepest calls, with what a thread and this driver take: %zu octets; a card has %zu\n", sizeof space - i, sizeof(card));
+}
+
+int main(void) {
+    joins();
+    messages();
+    stack();
+    return 0;
+}

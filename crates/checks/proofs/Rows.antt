@@ -1,0 +1,146 @@
+-- The rows of the table.
+--     row-54, ..       the rows about TLVs, each from the tests that lead to it
+--     passed-tells     all that a message that passes has shown
+--     refused-tells    the codes with which a message can be refused, each with the test that failed and those before it
+--     passes           what a message must show to pass
+-- Assumes nothing.
+use mathlib.Core.Path.{_≡_, refl, ap}
+use mathlib.Core.Bool.{Bool, true, false, cond}
+use mathlib.Core.List.{List, [], _∷_}
+use Prim.Native.Nat.{ℕ, _<_}
+use native.Mathlib.Omega.{arith}
+use lib.ListN.{length}
+use lib.Dec.{eqb, ltb}
+use borrow.Author.Tests.{ltb-true, ltb-false, eqb-true, eqb-false, eq-eqb, ne-eqb}
+use Rattle.header.specs.declared.Header.{Header}
+use Rattle.tlv.specs.Depth.{depthOf, listOk}
+use Rattle.items.specs.Items.{itemsOf}
+use Rattle.rows.specs.declared.Found.{Found}
+use Rattle.rows.specs.declared.Found.the-variants.{At, Nothing}
+use Rattle.circuits.specs.Circuits.{portOf}
+use Rattle.circuits.proofs.Circuits.{port-found}
+use Rattle.card.specs.declared.Card.{Card}
+use Rattle.card.specs.Cards.{portAt}
+use Rattle.checks.specs.Named.{needed, missing}
+use Rattle.checks.specs.declared.Verdict.{Verdict}
+use Rattle.checks.specs.declared.Verdict.the-variants.{Refused, Passed}
+use Rattle.checks.specs.Table.{handled, resultOk, idIn, located, faults, namedRows, tableOf}
+
+-- how many octets the missing types take
+abbrev lacks : ℕ → List ℕ → ℕ
+lacks kind s = length (missing (needed kind) (itemsOf s))
+
+none-by : (n : ℕ) → ltb 0 n ≡ false → eqb n 0 ≡ true
+none-by n h = eq-eqb n 0 (omega (arith, ltb-false 0 n h))
+
+some-by : (n : ℕ) → ltb 0 n ≡ true → eqb n 0 ≡ false
+some-by n h = ne-eqb n 0 (λ e. omega (arith, ltb-true 0 n h))
+
+module _ (ids : List ℕ) (card : Card) (kind : ℕ) (s : List ℕ) where
+  pub row-54 : ltb 0 (lacks kind s) ≡ true → Refused 0x54 ≡ namedRows ids card kind s
+  unfolding namedRows
+  row-54 h = rw (some-by (lacks kind s) h)
+
+  module _ (whole : ltb 0 (lacks kind s) ≡ false) where
+    pub row-55 : ltb 0 (length (faults kind s)) ≡ true → Refused 0x55 ≡ namedRows ids card kind s
+    unfolding namedRows
+    row-55 h = rw (none-by (lacks kind s) whole, some-by (length (faults kind s)) h)
+
+    pub row-port : {id : List ℕ} → ltb 0 (length (faults kind s)) ≡ false → id ≡ idIn s
+        → located card (portOf ids (card .«port_count») id) ≡ namedRows ids card kind s
+    unfolding namedRows
+    row-port h e = rw (none-by (lacks kind s) whole, none-by (length (faults kind s)) h, e)
+
+-- ---- what a verdict tells
+-- every row is passed, and the message's Target names port p, which is up
+pub record TablePassed (ids : List ℕ) (card : Card) (h : Header) (s : List ℕ) (p : ℕ) : Type 0 where
+  pub known : handled (h .kind) ≡ true
+  pub result : resultOk (h .kind) (h .result) ≡ true
+  pub sound : listOk (depthOf (h .result)) false s ≡ true
+  pub whole : missing (needed (h .kind)) (itemsOf s) ≡ []
+  pub faultless : faults (h .kind) s ≡ []
+  pub found : portOf ids (card .«port_count») (idIn s) ≡ At p
+  pub small : p < 64
+  pub below : p < card .«port_count»
+  pub up : portAt card p .up ≡ true
+
+-- the rows before those about TLVs are passed
+pub record Sound (h : Header) (s : List ℕ) : Type 0 where
+  pub known : handled (h .kind) ≡ true
+  pub result : resultOk (h .kind) (h .result) ≡ true
+  pub sound : listOk (depthOf (h .result)) false s ≡ true
+
+-- the row that refuses a message; those before it are passed
+pub data TableRefused (ids : List ℕ) (card : Card) (h : Header) (s : List ℕ) : ℕ → Type 0 where
+  unhandled : handled (h .kind) ≡ false → TableRefused ids card h s 0x51
+  unfit : handled (h .kind) ≡ true → resultOk (h .kind) (h .result) ≡ false → TableRefused ids card h s 0x2
+  broken : handled (h .kind) ≡ true → resultOk (h .kind) (h .result) ≡ true → listOk (depthOf (h .result)) false s ≡ false → TableRefused ids card h s 0x53
+  lacking : Sound h s → (missing (needed (h .kind)) (itemsOf s) ≡ [] → ⊥) → TableRefused ids card h s 0x54
+  faulty : Sound h s → missing (needed (h .kind)) (itemsOf s) ≡ [] → (faults (h .kind) s ≡ [] → ⊥) → TableRefused ids card h s 0x55
+  unknown : Sound h s → missing (needed (h .kind)) (itemsOf s) ≡ [] → faults (h .kind) s ≡ []
+      → portOf ids (card .«port_count») (idIn s) ≡ Nothing → TableRefused ids card h s 0x500
+  down : {p : ℕ} → Sound h s → missing (needed (h .kind)) (itemsOf s) ≡ [] → faults (h .kind) s ≡ []
+      → portOf ids (card .«port_count») (idIn s) ≡ At p → portAt card p .up ≡ false → TableRefused ids card h s 0x6
+
+empty : {A : Type 0} (l : List A) → length l ≡ 0 → l ≡ []
+empty [] e = refl
+empty (x ∷ l) e = absurd (omega arith)
+
+filled : {A : Type 0} (l : List A) → (length l ≡ 0 → ⊥) → l ≡ [] → ⊥
+filled l h e = h (ap length e)
+
+module _ (ids : List ℕ) (card : Card) (h : Header) (s : List ℕ) where
+  abbrev Tells : Verdict → Type 0
+  Tells (Refused code) = TableRefused ids card h s code
+  Tells (Passed p) = TablePassed ids card h s p
+
+  module _ (past : Sound h s) (whole : missing (needed (h .kind)) (itemsOf s) ≡ []) (faultless : faults (h .kind) s ≡ []) where
+    up-tells : (p : ℕ) → portOf ids (card .«port_count») (idIn s) ≡ At p → (b : Bool) → portAt card p .up ≡ b → Tells (cond b (Passed p) (Refused 0x6))
+    up-tells p e true u =
+        let g = port-found ids (card .«port_count») (idIn s) e in
+        record {
+          known = past .known;
+          result = past .result;
+          sound = past .sound;
+          whole = whole;
+          faultless = faultless;
+          found = e;
+          small = g .small;
+          below = g .below;
+          up = u;
+        }
+    up-tells p e false u = down past whole faultless e u
+
+    port-tells : (f : Found) → portOf ids (card .«port_count») (idIn s) ≡ f → Tells (located card f)
+    unfolding located
+    port-tells Nothing e = unknown past whole faultless e
+    port-tells (At p) e = up-tells p e (portAt card p .up) refl
+
+  named-tells : Sound h s → (a b : Bool) → eqb (lacks (h .kind) s) 0 ≡ a → eqb (length (faults (h .kind) s)) 0 ≡ b
+      → Tells (cond a (cond b (located card (portOf ids (card .«port_count») (idIn s))) (Refused 0x55)) (Refused 0x54))
+  named-tells past true true ha hb =
+      port-tells past (empty _ (eqb-true _ _ ha)) (empty _ (eqb-true _ _ hb)) (portOf ids (card .«port_count») (idIn s)) refl
+  named-tells past true false ha hb = faulty past (empty _ (eqb-true _ _ ha)) (filled _ (eqb-false _ _ hb))
+  named-tells past false b ha hb = lacking past (filled _ (eqb-false _ _ ha))
+
+  rows-tell : (a b c : Bool) → handled (h .kind) ≡ a → resultOk (h .kind) (h .result) ≡ b → listOk (depthOf (h .result)) false s ≡ c
+      → Tells (cond a (cond b (cond c (namedRows ids card (h .kind) s) (Refused 0x53)) (Refused 0x2)) (Refused 0x51))
+  unfolding namedRows
+  rows-tell true true true ha hb hc = named-tells (record { known = ha; result = hb; sound = hc }) _ _ refl refl
+  rows-tell true true false ha hb hc = broken ha hb hc
+  rows-tell true false c ha hb hc = unfit ha hb
+  rows-tell false b c ha hb hc = unhandled ha
+
+  tells : Tells (tableOf ids card h s)
+  unfolding tableOf
+  tells = rows-tell _ _ _ refl refl refl
+
+  pub passed-tells : {p : ℕ} → tableOf ids card h s ≡ Passed p → TablePassed ids card h s p
+  passed-tells e = rw e at tells
+
+  pub refused-tells : {code : ℕ} → tableOf ids card h s ≡ Refused code → TableRefused ids card h s code
+  refused-tells e = rw e at tells
+
+  pub passes : {p : ℕ} → TablePassed ids card h s p → tableOf ids card h s ≡ Passed p
+  unfolding tableOf namedRows located
+  passes t = rw (t .known, t .result, t .sound, t .whole, t .faultless, t .found, t .up)

@@ -1,0 +1,43 @@
+use mathlib.Core.Path.{_≡_, sym, ap, _∙_}
+use mathlib.Core.Bool.{false}
+use Prim.Native.Nat.{ℕ}
+use borrow.Author.Tests.{not-true, not-false}
+use Rattle.tlv.specs.Depth.{depthOf, listOk}
+use Rattle.checks.specs.Table.{tableOf}
+use borrow.Author.Needs.{needs}
+use Rattle.checks.proofs.check_table.Statement.{statement}
+use Rattle.checks.proofs.check_table.Tie as tie
+
+-- past the check of the list: whether it is in order
+sound : (c : tie.After-check-list) → c .check-list .result ≡ listOk (depthOf (c .before .before .before .before .before .before .before .args .h .result)) false (c .before .before .before .before .before .before .before .args .tlvs .now)
+sound c = c .check-list .ensures ∙ ap (λ (d : ℕ). listOk d false (c .before .before .before .before .before .before .before .args .tlvs .now)) (c .before .depth-of .ensures)
+
+returns : tie.Need-returns
+unfolding tableOf
+returns c = rw (sym (c .before .handled .ensures) ∙ not-true _ (c .if1 .taken))
+
+returns-2 : tie.Need-returns-2
+unfolding tableOf
+returns-2 c = rw (sym (c .before .before .before .handled .ensures) ∙ not-false _ (c .before .before .if1 .left), sym (c .before .result-ok .ensures) ∙ not-true _ (c .if2 .taken))
+
+returns-3 : tie.Need-returns-3
+unfolding tableOf
+returns-3 c = rw (sym (c .before .before .before .before .before .before .handled .ensures) ∙ not-false _ (c .before .before .before .before .before .if1 .left), sym (c .before .before .before .before .result-ok .ensures) ∙ not-false _ (c .before .before .before .if2 .left), sym (sound (c .before)) ∙ not-true _ (c .if3 .taken))
+
+returns-4 : tie.Need-returns-4
+unfolding tableOf
+returns-4 c = rw (sym (c .before .before .before .before .before .before .before .handled .ensures) ∙ not-false _ (c .before .before .before .before .before .before .if1 .left), sym (c .before .before .before .before .before .result-ok .ensures) ∙ not-false _ (c .before .before .before .before .if2 .left), sym (sound (c .before .before)) ∙ not-false _ (c .before .if3 .left)) (c .check-named .ensures)
+
+pub check-table-spec : {M : Type 1} → statement M
+check-table-spec =
+    tie.close
+    (tie.spec
+    (λ c κs. search needs)
+    returns
+    (λ c κs. search needs)
+    returns-2
+    (λ c κs. search needs)
+    (λ c κs. search needs)
+    returns-3
+    (λ c κs. search needs)
+    returns-4)

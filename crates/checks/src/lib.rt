@@ -1,0 +1,283 @@
+// The rows of 01's table that all messages go through, and the refusals that answer them.
+use card::Card;
+use fields::ALLOCATION;
+use fields::COMMAND;
+use fields::REQUEST;
+use fields::TARGET;
+use header::Header;
+use rows::Found;
+use tlv::First;
+ghost use mathlib.Core.Path.{_≡_};
+ghost use mathlib.Core.Bool.{false};
+ghost use mathlib.Core.List.{[], _∷_};
+ghost use Prim.Native.Nat.{_≤_};
+ghost use lib.ListN.{length};
+ghost use lib.Dec.{ltb};
+ghost use Rattle.octets.specs.Writing.{Wrote};
+ghost use Rattle.items.specs.Items.{itemsOf};
+ghost use Rattle.circuits.specs.Circuits.{portOf};
+ghost use Rattle.replies.specs.Replies.{refusalOf};
+ghost use Rattle.checks.specs.Named.{beside, needed, missing, singleOf, fromFault};
+ghost use Rattle.checks.specs.Table.{handled, resultOk, idIn, located, faults, namedRows, tableOf, copyOf, enclosedOf, refusedOf};
+
+pub enum Verdict {
+    // The result code of the row that refuses the message.
+    Refused(u16),
+    // The port that the message names, which is up.
+    Passed(u8),
+}
+
+pub fn check_table(ids: &[u8; 4096], card: Card, h: Header, tlvs: &[u8]) -> Verdict
+    ensures { λ r. ⌜ r ≡ tableOf (now (ids .entry)) card h (now (tlvs .entry)) ⌝ }
+{
+    if !handled(h.kind) {
+        return Verdict::Refused(0x51);
+    }
+    if !result_ok(h.kind, h.result) {
+        return Verdict::Refused(0x2);
+    }
+    if !tlv::check_list(tlvs, tlv::depth_of(h.result), false) {
+        return Verdict::Refused(0x53);
+    }
+    check_named(ids, card, h.kind, tlvs)
+}
+
+fn check_named(ids: &[u8; 4096], card: Card, kind: u8, tlvs: &[u8]) -> Verdict
+    ensures { λ r. ⌜ r ≡ namedRows (now (ids .entry)) card kind (now (tlvs .entry)) ⌝ }
+{
+    if is_missing(kind, tlvs) {
+        return Verdict::Refused(0x54);
+    }
+    if has_fault(kind, tlvs) {
+        return Verdict::Refused(0x55);
+    }
+    check_port(ids, card, id_in(tlvs))
+}
+
+fn check_port(ids: &[u8; 4096], card: Card, id: &[u8]) -> Verdict
+    ensures { λ r. ⌜ r ≡ located card (portOf (now (ids .entry)) (card .«port_count») (now (id .entry))) ⌝ }
+{
+    let found = circuits::port_of(ids, card.port_count, id);
+    match found {
+        Found::Nothing => Verdict::Refused(0x500),
+        Found::At(p) => {
+            let x = card.ports[p as usize];
+            if x.up {
+                return Verdict::Passed(p);
+            }
+            Verdict::Refused(0x6)
+        }
+    }
+}
+
+fn handled(kind: u8) -> bool
+    ensures { λ r. ⌜ r ≡ handled kind ⌝ }
+{
+    if kind == 144 {
+        return true;
+    }
+    if kind < 146 {
+        return false;
+    }
+    kind <= 149
+}
+
+fn result_ok(kind: u8, result: u8) -> bool
+    ensures { λ r. ⌜ r ≡ resultOk kind result ⌝ }
+{
+    if kind == 144 {
+        return result == 1 || result == 2;
+    }
+    if kind == 146 {
+        return result == 0;
+    }
+    if kind == 147 {
+        return true;
+    }
+    result == 2
+}
+
+// The circuit id of the message's Target; empty where there is none.
+pub fn id_in<'a>(tlvs: &'a [u8]) -> &'a [u8]
+    ensures { λ r. ⌜ now r ≡ idIn (now (tlvs .entry)) ⌝ }
+{
+    fields::circuit_id(items::first_of(tlvs, TARGET))
+}
+
+// ---- the TLVs that a message's rules name
+
+// One of the types that a message needs is missing.
+fn is_missing(kind: u8, tlvs: &[u8]) -> bool
+    ensures { λ r. ⌜ r ≡ ltb 0 (length (missing (needed kind) (itemsOf (now (tlvs .entry))))) ⌝ }
+{
+    if items::count_of(tlvs, TARGET) == 0 {
+        return true;
+    }
+    beside_missing(kind, tlvs)
+}
+
+fn beside_missing(kind: u8, tlvs: &[u8]) -> bool
+    ensures { λ r. ⌜ r ≡ ltb 0 (length (missing (beside kind) (itemsOf (now (tlvs .entry))))) ⌝ }
+{
+    if kind == 144 {
+        return items::count_of(tlvs, COMMAND) == 0;
+    }
+    if kind == 146 {
+        return items::count_of(tlvs, REQUEST) == 0;
+    }
+    if kind == 147 {
+        return items::count_of(tlvs, ALLOCATION) == 0;
+    }
+    false
+}
+
+// A TLV is at fault.
+fn has_fault(kind: u8, tlvs: &[u8]) -> bool
+    ensures { λ r. ⌜ r ≡ ltb 0 (length (faults kind (now (tlvs .entry)))) ⌝ }
+{
+    let next = tlv::first_tlv(faults(kind, tlvs));
+    match next {
+        First::End => false,
+        First::Broken => false,
+        First::Tlv {
+            kind: _,
+            len: _,
+            size: _,
+        } => true,
+    }
+}
+
+// The part from the first TLV at fault on.
+fn faults<'a>(kind: u8, tlvs: &'a [u8]) -> &'a [u8]
+    ensures { λ r. ⌜ itemsOf (now r) ≡ faults kind (now (tlvs .entry)) ⌝ }
+{
+    from_fault(tlvs, single_of(kind))
+}
+
+fn single_of(kind: u8) -> u16
+    ensures { λ r. ⌜ r ≡ singleOf kind ⌝ }
+{
+    if kind == 146 {
+        return REQUEST;
+    }
+    if kind == 147 {
+        return ALLOCATION;
+    }
+    TARGET
+}
+
+// The same of the Targets, and of the TLVs of type `single`.
+fn from_fault<'a>(tlvs: &'a [u8], single: u16) -> &'a [u8]
+    ensures { λ r. ⌜ itemsOf (now r) ≡ fromFault single false false (itemsOf (now (tlvs .entry))) ⌝ }
+{
+    let mut target = false;
+    let mut other = false;
+    let mut t = tlvs;
+    loop {
+        let next = tlv::first_tlv(t);
+        match next {
+            First::End => return t,
+            First::Broken => return t,
+            First::Tlv { kind, len, size } => {
+                let e = 4 + len;
+                if kind == TARGET {
+                    if target || fields::circuit_ids(&t[4..e]) != 1 {
+                        return t;
+                    }
+                    target = true;
+                    t = &t[size..];
+                    continue;
+                }
+                if kind == single {
+                    if other || !fields::length_ok(single, &t[4..e]) {
+                        return t;
+                    }
+                    other = true;
+                }
+                t = &t[size..];
+            }
+        }
+    }
+}
+
+// ---- refusals
+
+// The Generic Response to a message that a row refuses with this code.
+pub fn put_refused(reply: &mut [u8], h: Header, tlvs: &[u8], code: u16) -> usize
+    requires { ⌜ (4608 ≤ length (now reply)) × (length (now tlvs) ≤ 4096) ⌝ }
+    ensures { λ r. ⌜ Wrote (refusedOf h (now (tlvs .entry)) code) r (now (reply .entry)) (now (reply .exit)) ⌝ }
+{
+    if code == 0x54 {
+        return refuse_missing(reply, h, tlvs);
+    }
+    if code == 0x55 {
+        return refuse_fault(reply, h, tlvs);
+    }
+    if code == 0x500 {
+        return replies::refuse_target(reply, h, code, id_in(tlvs));
+    }
+    if code == 0x6 {
+        return replies::refuse_target(reply, h, code, id_in(tlvs));
+    }
+    replies::refuse(reply, h, code)
+}
+
+fn refuse_fault(reply: &mut [u8], h: Header, tlvs: &[u8]) -> usize
+    requires { ⌜ (4608 ≤ length (now reply)) × (length (now tlvs) ≤ 4096) ⌝ }
+    ensures { λ r. ⌜ Wrote (refusalOf h 0x55 (copyOf (faults (h .kind) (now (tlvs .entry))))) r (now (reply .entry)) (now (reply .exit)) ⌝ }
+{
+    let t = faults(h.kind, tlvs);
+    let next = tlv::first_tlv(t);
+    match next {
+        First::End => replies::refuse(reply, h, 0x55),
+        First::Broken => replies::refuse(reply, h, 0x55),
+        First::Tlv { kind, len, size: _ } => {
+            let e = 4 + len;
+            replies::refuse_tlv(reply, h, 0x55, kind, &t[4..e])
+        }
+    }
+}
+
+fn refuse_missing(reply: &mut [u8], h: Header, tlvs: &[u8]) -> usize
+    requires { ⌜ 4608 ≤ length (now reply) ⌝ }
+    ensures { λ r. ⌜ Wrote (refusalOf h 0x54 (missing (needed (h .kind)) (itemsOf (now (tlvs .entry))))) r (now (reply .entry)) (now (reply .exit)) ⌝ }
+{
+    let n = put_missing(&mut reply[24..], h.kind, tlvs);
+    replies::put_refusal(reply, h, 0x54, n);
+    24 + n
+}
+
+// A bare header of each missing type, each directly behind the one before it.
+fn put_missing(buf: &mut [u8], kind: u8, tlvs: &[u8]) -> usize
+    requires { ⌜ 8 ≤ length (now buf) ⌝ }
+    ensures { λ r. ⌜ Wrote (missing (needed kind) (itemsOf (now (tlvs .entry)))) r (now (buf .entry)) (now (buf .exit)) ⌝ }
+{
+    let n = put_if_missing(buf, TARGET, tlvs);
+    n + put_beside(&mut buf[n..], kind, tlvs)
+}
+
+fn put_beside(buf: &mut [u8], kind: u8, tlvs: &[u8]) -> usize
+    requires { ⌜ 4 ≤ length (now buf) ⌝ }
+    ensures { λ r. ⌜ Wrote (missing (beside kind) (itemsOf (now (tlvs .entry)))) r (now (buf .entry)) (now (buf .exit)) ⌝ }
+{
+    if kind == 144 {
+        return put_if_missing(buf, COMMAND, tlvs);
+    }
+    if kind == 146 {
+        return put_if_missing(buf, REQUEST, tlvs);
+    }
+    if kind == 147 {
+        return put_if_missing(buf, ALLOCATION, tlvs);
+    }
+    0
+}
+
+fn put_if_missing(buf: &mut [u8], kind: u16, tlvs: &[u8]) -> usize
+    requires { ⌜ 4 ≤ length (now buf) ⌝ }
+    ensures { λ r. ⌜ Wrote (missing (kind ∷ []) (itemsOf (now (tlvs .entry)))) r (now (buf .entry)) (now (buf .exit)) ⌝ }
+{
+    if items::count_of(tlvs, kind) == 0 {
+        return writers::put_bare(buf, kind);
+    }
+    0
+}

@@ -1,0 +1,60 @@
+-- What a command comes to on the flow of channel k, case by case, from the tests that lead there. Assumes nothing.
+use mathlib.Core.Path.{_≡_, sym, ap, _∙_}
+use mathlib.Core.Bool.{true, false}
+use mathlib.Core.List.{List}
+use Prim.Native.Nat.{ℕ}
+use lib.Dec.{eqb}
+use borrow.Author.Tests.{eq-eqb, ne-eqb}
+use Rattle.octets.proofs.Tests.{taken, left}
+use Rattle.rows.specs.declared.Found.the-variants.{At}
+use Rattle.pool.specs.declared.Pool.{Pool}
+use Rattle.pool.specs.Pool.{isActive, began, accounted, endedFlow}
+use Rattle.card.specs.declared.Card.{Card}
+use Rattle.card.specs.Cards.{withPool}
+use Rattle.joins.specs.Joins.{admitNumber}
+use Rattle.commands.specs.declared.Ran.{Ran}
+use Rattle.commands.specs.Commands.{fails, succeeds, addNew, addRow, deleteRow}
+
+-- success with a pool y that is the one to be
+pub pooled : (card : Card) {y z : Pool} {r : Ran} → r ≡ succeeds (withPool card y) → y ≡ z → r ≡ succeeds (withPool card z)
+pooled card er ey = er ∙ ap (λ (x : Pool). succeeds (withPool card x)) ey
+
+module _ (card : Card) (p k : ℕ) where
+  abbrev ends : Ran
+  ends = succeeds (withPool card (endedFlow (card .pool) p k))
+
+  pub delete-active : isActive (card .pool) p k ≡ true → ends ≡ deleteRow card p (At k)
+  unfolding deleteRow
+  delete-active h = taken (isActive (card .pool) p k) ends (fails card 0x66) h
+
+  pub delete-idle : isActive (card .pool) p k ≡ false → fails card 0x66 ≡ deleteRow card p (At k)
+  unfolding deleteRow
+  delete-idle h = left (isActive (card .pool) p k) ends (fails card 0x66) h
+
+  module _ (channels : List ℕ) (accounting : ℕ) where
+    abbrev again : Ran
+    again = succeeds (withPool card (accounted (card .pool) p k accounting))
+
+    abbrev begins : Ran
+    begins = succeeds (withPool card (began (card .pool) p k (card .«add_cac») accounting))
+
+    abbrev number : ℕ
+    number = admitNumber channels card (card .«add_cac») p k
+
+    pub add-active : isActive (card .pool) p k ≡ true → again ≡ addRow channels card p accounting (At k)
+    unfolding addRow
+    add-active h = taken (isActive (card .pool) p k) again (addNew channels card p k accounting) h
+
+    -- n is what admission answers
+    module _ (idle : isActive (card .pool) p k ≡ false) {n : ℕ} (e : n ≡ number) where
+      new : addNew channels card p k accounting ≡ addRow channels card p accounting (At k)
+      unfolding addRow
+      new = left (isActive (card .pool) p k) again (addNew channels card p k accounting) idle
+
+      pub add-refused : (n ≡ 0 → ⊥) → fails card 0x13 ≡ addRow channels card p accounting (At k)
+      unfolding addNew
+      add-refused h = left (eqb number 0) begins (fails card 0x13) (ne-eqb number 0 (λ q. h (e ∙ q))) ∙ new
+
+      pub add-begins : n ≡ 0 → begins ≡ addRow channels card p accounting (At k)
+      unfolding addNew
+      add-begins h = taken (eqb number 0) begins (fails card 0x13) (eq-eqb number 0 (sym e ∙ h)) ∙ new

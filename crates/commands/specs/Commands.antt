@@ -1,0 +1,53 @@
+-- One command of a 144 on port p (01, "144"): the card behind it, and the result code, 0 for success. Assumes nothing: these are definitions.
+use Prim.Native.Nat.{ℕ}
+use mathlib.Core.Bool.{cond}
+use mathlib.Core.List.{List}
+use lib.Dec.{eqb}
+use Rattle.flows.specs.declared.Flow.{Flow}
+use Rattle.rows.specs.declared.Found.{Found}
+use Rattle.rows.specs.declared.Found.the-variants.{At, Nothing}
+use Rattle.channels.specs.Channels.{channelOf}
+use Rattle.pool.specs.Pool.{isActive, began, endedFlow, endedAll, accounted}
+use Rattle.card.specs.declared.Card.{Card}
+use Rattle.card.specs.Cards.{withPool}
+use Rattle.joins.specs.Joins.{admitNumber}
+use Rattle.commands.specs.Orders.{Order, orderOf}
+use Rattle.commands.specs.Orders.Order.{ill, add, delete, deleteAll}
+use Rattle.commands.specs.declared.Ran.{Ran}
+
+-- a failed command changes nothing
+abbrev pub fails : Card → ℕ → Ran
+fails card code = record { card = card; code = code }
+
+abbrev pub succeeds : Card → Ran
+succeeds card = record { card = card; code = 0 }
+
+-- room, then admission: 0x13. The flow is charged exactly if MRepCtl-CAC is on
+unfoldable pub addNew : List ℕ → Card → ℕ → ℕ → ℕ → Ran
+addNew channels card p k accounting =
+    cond (eqb (admitNumber channels card (card .«add_cac») p k) 0)
+    (succeeds (withPool card (began (card .pool) p k (card .«add_cac») accounting)))
+    (fails card 0x13)
+
+-- "Add: unlisted 0x66; active already, succeed and set accounting only"
+unfoldable pub addRow : List ℕ → Card → ℕ → ℕ → Found → Ran
+addRow channels card p accounting Nothing = fails card 0x66
+addRow channels card p accounting (At k) =
+    cond (isActive (card .pool) p k) (succeeds (withPool card (accounted (card .pool) p k accounting)))
+    (addNew channels card p k accounting)
+
+-- "Delete of an inactive flow: 0x66"
+unfoldable pub deleteRow : Card → ℕ → Found → Ran
+deleteRow card p Nothing = fails card 0x66
+deleteRow card p (At k) =
+    cond (isActive (card .pool) p k) (succeeds (withPool card (endedFlow (card .pool) p k))) (fails card 0x66)
+
+unfoldable pub obeyed : List ℕ → Card → ℕ → Order → Ran
+obeyed channels card p (ill code) = fails card code
+obeyed channels card p (add f accounting) = addRow channels card p accounting (channelOf channels (card .«channel_count») f)
+obeyed channels card p (delete f) = deleteRow card p (channelOf channels (card .«channel_count») f)
+obeyed channels card p deleteAll = succeeds (withPool card (endedAll (card .pool) p))
+
+-- a Command with content c
+abbrev pub ranOf : List ℕ → Card → ℕ → List ℕ → Ran
+ranOf channels card p c = obeyed channels card p (orderOf c)

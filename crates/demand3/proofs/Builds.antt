@@ -1,0 +1,160 @@
+-- The claim fails for each worthless build: on a small start, one clause says what the build does not do.
+-- Assumes nothing.
+use mathlib.Core.Path.{_≡_, refl, sym, ap, subst, _∙_}
+use mathlib.Core.Logic.{inl}
+use mathlib.Core.Bool.{Bool, true, false, cond, false≢true}
+use mathlib.Core.List.{List, [], _∷_}
+use native.Mathlib.Omega.{arith}
+use borrow.Author.Tests.{eq-eqb, le-leb}
+use Rattle.octets.specs.Tests.{every}
+use Rattle.sums.specs.Sums.{sumBy}
+use Rattle.pool.specs.Pool.{committedOf}
+use Rattle.card.specs.declared.Card.{Card}
+use Rattle.card.specs.Cards.{isPort}
+use Rattle.card.specs.Outcome.{Outcome}
+use Rattle.card.specs.Calls.{portUpOf, setDelegationOf}
+use Rattle.card.specs.Figures.{upOf}
+use Rattle.listing.specs.Listing.{activeAt}
+use Rattle.commands.specs.Commands.{ranOf}
+use Rattle.demand3.specs.Calls.{Call, ours, outcomeOf, startedOf, history, seen}
+use Rattle.demand3.specs.Calls.Call.{portUp, setDelegation, join, message}
+use Rattle.demand3.specs.Ledger.{Ledger, opened, write, withDelegation, holds, begins, entry, entered, ledgerFrom, ledgerOf}
+use Rattle.demand3.specs.Claim.{charges, Starts, Claim}
+use Rattle.demand3.specs.Builds.{calling, refusing, agreeable, idle, firstRun, firstOnly, deaf, inventing, Worthless}
+use Rattle.demand3.proofs.Agree.{Agree}
+use Rattle.demand3.proofs.Figures.{committed-is}
+use Rattle.demand3.proofs.Host.{delegation-step}
+use Rattle.demand3.proofs.Join.{join-starts}
+use Rattle.demand3.proofs.BuildsStart.{
+  small,
+  first,
+  second,
+  both-listed,
+  first-rate,
+  first-white,
+  started,
+  taken,
+  started-is,
+  tables,
+  raised,
+  one-up,
+  up-claim,
+  first-wanted,
+  upped,
+  up-number,
+  up-agrees,
+}
+use Rattle.demand3.proofs.BuildsMessage.{command, both-added, added-kind, added-port, added-commands, first-alone, second-reached, second-starts}
+
+-- ---- behind port up: without admission control a join starts, and its number is 0
+refuses-every-join : Claim (calling refusing) → ⊥
+unfolding refusing Starts write
+refuses-every-join c =
+    let d = up-claim refusing false c (up-number false) in
+    let z = d .joins 0 first 4608 (first-wanted false) (first-white false) (omega arith) .0 .1 (inl (omega arith)) in
+    omega arith
+
+-- with it, it does not start under delegation 0, and its number is not 0
+keeps-one-answer : Claim (calling agreeable) → ⊥
+unfolding agreeable Starts charges sumBy write
+keeps-one-answer c =
+    let d = up-claim agreeable true c refl in
+    let fits = d .joins 0 first 4608 (first-wanted true) (first-white true) (omega arith) .0 .0 refl .0 in
+    omega (arith, first-rate true)
+
+-- the port reads up
+changes-nothing : Claim (calling idle) → ⊥
+unfolding idle upOf write isPort every
+changes-nothing c = false≢true (up-claim idle true c (up-number true) .is-up 0 (omega arith))
+
+-- ---- behind port up, a 144 with two Adds: the second leaves its flow active
+only-first : firstOnly (small false) (upped false) (message both-added 4608) .card ≡ ranOf (small false .channels) (upped false) 0 (command 1) .card
+unfolding firstOnly firstRun
+only-first = rw (added-kind, added-commands, added-port)
+
+runs-command-1 : Claim (calling firstOnly) → ⊥
+unfolding firstOnly
+runs-command-1 c =
+    let d = up-claim firstOnly false c (up-number false) in
+    let active = d .last-add both-added 4608 0 second (command 1 ∷ []) second-reached (omega arith) .1 second-starts in
+    false≢true (sym first-alone ∙ ap (λ (card : Card). activeAt (small false .channels) card 0 second) (sym only-first) ∙ active)
+
+-- and acts, with number 0
+refuses-every-message : Claim (calling deaf) → ⊥
+unfolding deaf
+refuses-every-message c =
+    let d = up-claim deaf false c (up-number false) in
+    let z = d .adds both-added 4608 0 second (command 1 ∷ []) [] second-reached (omega arith) .1 second-starts .0 in
+    omega arith
+
+-- ---- a join that is charged: port up, 1000 kbit/s delegated, join of the first flow
+abbrev calls : List Call
+calls = portUp 0 ∷ setDelegation 0 1000 ∷ join 0 first 4608 ∷ []
+
+-- the ledger behind a call of ours
+abbrev next : Card → Call → Ledger → Ledger
+next card x l = entered (small true) l (seen ours (small true) card x)
+
+enters : (card : Card) (x : Call) (l : Ledger) → outcomeOf (small true) card x .number ≡ 0
+    → next card x l ≡ entry (small true) l x (outcomeOf (small true) card x .reply)
+unfolding entered
+enters card x l e =
+    ap (λ (b : Bool). cond b (entry (small true) l x (outcomeOf (small true) card x .reply)) l) (eq-eqb (outcomeOf (small true) card x .number) 0 e)
+
+abbrev given : Ledger
+given = write one-up 0 (withDelegation raised 1000)
+
+abbrev delegated : Outcome
+delegated = outcomeOf (small true) (upped true) (setDelegation 0 1000)
+
+delegated-number : delegated .number ≡ 0
+unfolding outcomeOf setDelegationOf portUpOf isPort every charges sumBy write
+delegated-number =
+    let none = committed-is (small true) (upped true) one-up (up-agrees true) 0 (omega arith) in
+    rw (le-leb (committedOf (small true .channels) (upped true .pool) 0) 1000 (omega arith))
+
+given-is : next (upped true) (setDelegation 0 1000) one-up ≡ given
+unfolding entry write
+given-is = enters (upped true) (setDelegation 0 1000) one-up delegated-number
+
+given-agrees : Agree (small true) (delegated .card) given
+given-agrees = subst (Agree (small true) (delegated .card)) given-is (delegation-step (small true) (upped true) one-up (up-agrees true) 0 1000)
+
+joined-number : outcomeOf (small true) (delegated .card) (join 0 first 4608) .number ≡ 0
+unfolding Starts charges sumBy write holds
+joined-number =
+    join-starts (small true) (delegated .card) given given-agrees 0 first 4608 (tables true)
+    (record { port = omega arith; is-listed = both-listed true .0; is-up = refl; idle = refl }) (first-white true) (omega arith)
+    .0 .1 (omega (arith, first-rate true), inl (omega arith))
+
+abbrev charged : Ledger
+charged = write given 0 (begins (given 0) first true)
+
+charged-is : ledgerOf (small true) (history ours (small true) (started true) calls) ≡ charged
+unfolding history ledgerFrom entry
+charged-is =
+    ap (λ (l : Ledger). next (delegated .card) (join 0 first 4608) (next (upped true) (setDelegation 0 1000) l)) (enters (started true) (portUp 0) opened (up-number true))
+    ∙ ap (next (delegated .card) (join 0 first 4608)) given-is
+    ∙ enters (delegated .card) (join 0 first 4608) given joined-number
+
+-- its rate is committed
+invents-committed : Claim inventing → ⊥
+unfolding history charges sumBy write
+invents-committed c =
+    let reads : 0 ≡ charges (small true) (ledgerOf (small true) (history ours (small true) (startedOf (small true) 1 .card) calls) 0) =
+    c .holds-after (small true) 1 (taken true) calls .committed 0 (omega arith) in
+    let none : 0 ≡ charges (small true) (charged 0) =
+    reads ∙ ap (λ (card : Card). charges (small true) (ledgerOf (small true) (history ours (small true) card calls) 0)) (started-is true)
+    ∙ ap (λ (l : Ledger). charges (small true) (l 0)) charged-is in
+    omega (arith, first-rate true)
+
+pub worthless : Worthless
+worthless =
+    record {
+      refuses-every-join = refuses-every-join;
+      keeps-one-answer = keeps-one-answer;
+      changes-nothing = changes-nothing;
+      runs-command-1 = runs-command-1;
+      refuses-every-message = refuses-every-message;
+      invents-committed = invents-committed;
+    }

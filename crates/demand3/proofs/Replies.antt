@@ -1,0 +1,203 @@
+-- What the ledger reads of a reply: its type and Result, what a refusal encloses, and the port and amount of a Bandwidth Transfer.
+-- Assumes nothing.
+use Prim.Native.Nat.{ℕ, _<_}
+use mathlib.Core.Path.{_≡_, refl, sym, ap, _∙_}
+use mathlib.Core.Bool.{Bool, true, false, cond, _||_, not}
+use mathlib.Core.List.{List, [], _∷_, _++_, append-nil, append-assoc}
+use native.Mathlib.Omega.{arith}
+use lib.Dec.{eqb}
+use borrow.Author.Tests.{eqb-true}
+use Rattle.octets.specs.Numbers.{oct8, oct16, oct24}
+use Rattle.header.specs.declared.Header.{Header}
+use Rattle.header.specs.Header.{headerIn, headerOf, messageOf}
+use Rattle.items.specs.Items.{Item, item, itemsOf, ofType, countOf, firstOf}
+use Rattle.items.proofs.Types.{count-miss}
+use Rattle.fields.specs.Fields.{circuitId, circuitIds, lengthOk, allocationIn, sequenceIn, statusTlvs}
+use Rattle.writers.specs.Tlvs.{tlvOf, bareOf, targetOf, statusOf, sequenceOf, allocationOf}
+use Rattle.replies.specs.Replies.{replyHeader, refusalOf, successOf, amountReply}
+use Rattle.rows.specs.declared.Found.the-variants.{At}
+use Rattle.circuits.specs.Circuits.{idAt, portOf}
+use Rattle.tables.proofs.Tables.{own-port}
+use Rattle.checks.specs.Named.{beside, needed, missing, singleOf, fromFault}
+use Rattle.checks.specs.Table.{idIn, copyOf, enclosedOf, refusedOf}
+use Rattle.control.specs.Control.{failureOf}
+use Rattle.queries.specs.Queries.{flowsReply, flowTlvs}
+use Rattle.readback.proofs.Tlv.{items-none, items-back}
+use Rattle.readback.proofs.Message.{message-back}
+use Rattle.readback.proofs.Fields.{read-back}
+use Rattle.demand3.specs.Calls.{Tables}
+use Rattle.demand3.specs.Ledger.{kindIn, resultIn, tlvsIn, portIn, amountIn, enclosedIn}
+use Rattle.demand3.proofs.Agree.{TablesTaken}
+
+-- ---- type and Result, whatever the transaction
+pub kind-none : kindIn [] ≡ 0
+unfolding kindIn headerIn
+kind-none = refl
+
+pub result-none : resultIn [] ≡ 0
+unfolding resultIn headerIn
+result-none = refl
+
+module _ (h : Header) (body : List ℕ) where
+  pub kind-back : kindIn (messageOf h body) ≡ h .kind
+  unfolding kindIn headerIn messageOf headerOf oct8 oct16 oct24
+  kind-back = refl
+
+  pub result-back : h .result < 16 → resultIn (messageOf h body) ≡ h .result
+  unfolding resultIn headerIn messageOf headerOf oct8 oct16 oct24
+  result-back k = omega arith
+
+  tlvs-back : tlvsIn (messageOf h body) ≡ itemsOf body
+  unfolding tlvsIn
+  tlvs-back = ap itemsOf (message-back h body .tlvs)
+
+module _ (h : Header) where
+  pub kind-refusal : (code : ℕ) (inner : List ℕ) → kindIn (refusalOf h code inner) ≡ 91
+  unfolding refusalOf
+  kind-refusal code inner = kind-back (replyHeader h 91 4 code) (statusOf (h .kind) inner)
+
+  pub result-refusal : (code : ℕ) (inner : List ℕ) → resultIn (refusalOf h code inner) ≡ 4
+  unfolding refusalOf
+  result-refusal code inner = result-back (replyHeader h 91 4 code) (statusOf (h .kind) inner) (omega arith)
+
+  pub kind-success : kindIn (successOf h) ≡ 91
+  unfolding successOf
+  kind-success = kind-back (replyHeader h 91 3 0) []
+
+  pub result-success : resultIn (successOf h) ≡ 3
+  unfolding successOf
+  result-success = result-back (replyHeader h 91 3 0) [] (omega arith)
+
+  pub kind-amount : (kind result code : ℕ) (id : List ℕ) (amount : ℕ) → kindIn (amountReply h kind result code id amount) ≡ kind
+  unfolding amountReply
+  kind-amount kind result code id amount = kind-back (replyHeader h kind result code) (targetOf id ++ allocationOf amount)
+
+  pub result-amount : (kind result code : ℕ) (id : List ℕ) (amount : ℕ) → result < 16 → resultIn (amountReply h kind result code id amount) ≡ result
+  unfolding amountReply
+  result-amount kind result code id amount = result-back (replyHeader h kind result code) (targetOf id ++ allocationOf amount)
+
+  pub kind-flows : (id channels ks : List ℕ) → kindIn (flowsReply h id channels ks) ≡ h .kind
+  unfolding flowsReply
+  kind-flows id channels ks = kind-back (replyHeader h (h .kind) 3 0) (targetOf id ++ flowTlvs channels ks)
+
+-- ---- what a refusal encloses
+one-item : (w : List ℕ) (i : Item) → ((r : List ℕ) → itemsOf (w ++ r) ≡ i ∷ itemsOf r) → itemsOf w ≡ i ∷ []
+one-item w i s = ap itemsOf (sym (append-nil w)) ∙ s [] ∙ ap (λ (is : List Item). i ∷ is) items-none
+
+pub enclosed-back : (h : Header) (code : ℕ) (inner : List ℕ) → enclosedIn (refusalOf h code inner) ≡ itemsOf inner
+unfolding refusalOf enclosedIn firstOf ofType
+enclosed-back h code inner =
+    let b = read-back .status (h .kind) inner in
+    ap (λ (is : List Item). itemsOf (statusTlvs (firstOf 0x0106 is)))
+    (tlvs-back (replyHeader h 91 4 code) (statusOf (h .kind) inner) ∙ one-item (statusOf (h .kind) inner) (item 0x0106 (b .content)) (b .stands))
+    ∙ ap itemsOf (b .fields .2)
+
+-- a failed command is named by its number
+module _ (h : Header) (code : ℕ) (id : List ℕ) (seq : ℕ) (c : List ℕ) where
+  abbrev told : List Item
+  told =
+      item 0x1000 (read-back .target id .content) ∷ item 0x0022 (read-back .sequence seq .content) ∷ item 0x0011 (read-back .tlv 0x0011 c .content) ∷ []
+
+  enclosed-failure : enclosedIn (failureOf h code id seq c) ≡ told
+  unfolding failureOf
+  enclosed-failure =
+      let a = read-back .target id in
+      let b = read-back .sequence seq in
+      let d = read-back .tlv 0x0011 c in
+      enclosed-back h code (targetOf id ++ sequenceOf seq ++ tlvOf 0x0011 c)
+      ∙ ap itemsOf (append-assoc (targetOf id) (sequenceOf seq) (tlvOf 0x0011 c))
+      ∙ a .stands (sequenceOf seq ++ tlvOf 0x0011 c)
+      ∙ ap (λ (is : List Item). item 0x1000 (a .content) ∷ is)
+      (b .stands (tlvOf 0x0011 c) ∙ ap (λ (is : List Item). item 0x0022 (b .content) ∷ is) (one-item (tlvOf 0x0011 c) (item 0x0011 (d .content)) (d .stands)))
+
+  pub count-failure : countOf 0x0022 (enclosedIn (failureOf h code id seq c)) ≡ 1
+  unfolding countOf ofType
+  count-failure = ap (countOf 0x0022) enclosed-failure
+
+  pub sequence-failure : sequenceIn (firstOf 0x0022 (enclosedIn (failureOf h code id seq c))) ≡ seq
+  unfolding firstOf ofType
+  sequence-failure = ap (λ (is : List Item). sequenceIn (firstOf 0x0022 is)) enclosed-failure ∙ read-back .sequence seq .fields .1
+
+-- ---- a refusal by the table names no command: nothing that it encloses is a Sequence-Number
+-- w adds no TLV of that type to those behind it
+unfoldable Unnumbered : List ℕ → Type 0
+Unnumbered w = (r : List ℕ) → countOf 0x0022 (itemsOf (w ++ r)) ≡ countOf 0x0022 (itemsOf r)
+
+none-unnumbered : Unnumbered []
+unfolding Unnumbered
+none-unnumbered r = refl
+
+tlv-unnumbered : (k : ℕ) (c : List ℕ) → (k ≡ 0x0022 → ⊥) → Unnumbered (tlvOf k c)
+unfolding Unnumbered
+tlv-unnumbered k c n r = ap (countOf 0x0022) (items-back k c r) ∙ count-miss (item k c) (itemsOf r) n
+
+both-unnumbered : (v w : List ℕ) → Unnumbered v → Unnumbered w → Unnumbered (v ++ w)
+unfolding Unnumbered
+both-unnumbered v w f g r = ap (λ (x : List ℕ). countOf 0x0022 (itemsOf x)) (append-assoc v w r) ∙ f (w ++ r) ∙ g r
+
+some-unnumbered : (b : Bool) (v w : List ℕ) → Unnumbered v → Unnumbered w → Unnumbered (cond b v w)
+some-unnumbered true v w f g = f
+some-unnumbered false v w f g = g
+
+-- the first TLV at fault of a 144 is a Target
+target-unnumbered : (i : Item) (is js ks ls : List Item) (b u v : Bool) → eqb (i .kind) 0x1000 ≡ b → Unnumbered (copyOf js) → Unnumbered (copyOf ls)
+    → Unnumbered (copyOf (cond b (cond u (i ∷ is) js) (cond b (cond v (i ∷ is) ks) ls)))
+unfolding copyOf
+target-unnumbered i is js ks ls true true v e f g = let t : i .kind ≡ 0x1000 = eqb-true (i .kind) 0x1000 e in tlv-unnumbered (i .kind) (i .content) (λ k. omega arith)
+target-unnumbered i is js ks ls true false v e f g = f
+target-unnumbered i is js ks ls false u v e f g = g
+
+copy-unnumbered : (target other : Bool) (is : List Item) → Unnumbered (copyOf (fromFault 0x1000 target other is))
+unfolding fromFault copyOf
+copy-unnumbered target other [] = none-unnumbered
+copy-unnumbered target other (i ∷ is) =
+    target-unnumbered i is (fromFault 0x1000 true other is) (fromFault 0x1000 target true is) (fromFault 0x1000 target other is) (eqb (i .kind) 0x1000)
+    (target || not (eqb (circuitIds (i .content)) 1)) (other || not (lengthOk 0x1000 (i .content))) refl
+    (copy-unnumbered true other is) (copy-unnumbered target other is)
+
+enclosed-unnumbered : (s : List ℕ) (code : ℕ) → Unnumbered (enclosedOf 144 s code)
+unfolding enclosedOf missing beside singleOf targetOf
+enclosed-unnumbered s code =
+    some-unnumbered (eqb code 0x54) _ _
+    (both-unnumbered _ _ (bare 0x1000 (λ k. omega arith)) (both-unnumbered _ _ (bare 0x0011 (λ k. omega arith)) none-unnumbered))
+    (some-unnumbered (eqb code 0x55) _ _ (copy-unnumbered false false (itemsOf s))
+    (some-unnumbered (eqb code 0x500 || eqb code 0x6) _ _ (tlv-unnumbered 0x1000 (tlvOf 0x0001 (idIn s)) (λ k. omega arith)) none-unnumbered))
+  where
+    bare : (k : ℕ) → (k ≡ 0x0022 → ⊥) → Unnumbered (cond (eqb (countOf k (itemsOf s)) 0) (bareOf k) [])
+    bare k n = some-unnumbered (eqb (countOf k (itemsOf s)) 0) (bareOf k) [] (tlv-unnumbered k [] n) none-unnumbered
+
+pub refused-unnumbered : (h : Header) (s : List ℕ) (code : ℕ) → h .kind ≡ 144 → countOf 0x0022 (enclosedIn (refusedOf h s code)) ≡ 0
+unfolding countOf ofType Unnumbered
+refused-unnumbered h s code e =
+    let w : List ℕ = enclosedOf (h .kind) s code in
+    ap (countOf 0x0022) (enclosed-back h code w ∙ ap (λ (k : ℕ). itemsOf (enclosedOf k s code)) e ∙ ap itemsOf (sym (append-nil (enclosedOf 144 s code))))
+    ∙ enclosed-unnumbered s code []
+    ∙ ap (countOf 0x0022) items-none
+
+-- ---- the port and the amount of a Bandwidth Transfer
+module _ (t : Tables) (h : Header) (kind result code p amount : ℕ) where
+  abbrev reply : List ℕ
+  reply = amountReply h kind result code (idAt (t .ids) p) amount
+
+  abbrev carried : List Item
+  carried = item 0x1000 (read-back .target (idAt (t .ids) p) .content) ∷ item 0x0015 (read-back .allocation amount .content) ∷ []
+
+  tlvs-amount : tlvsIn reply ≡ carried
+  unfolding amountReply
+  tlvs-amount =
+      let a = read-back .target (idAt (t .ids) p) in
+      let b = read-back .allocation amount in
+      tlvs-back (replyHeader h kind result code) (targetOf (idAt (t .ids) p) ++ allocationOf amount)
+      ∙ a .stands (allocationOf amount)
+      ∙ ap (λ (is : List Item). item 0x1000 (a .content) ∷ is) (one-item (allocationOf amount) (item 0x0015 (b .content)) (b .stands))
+
+  pub amount-back : amountIn reply ≡ amount
+  unfolding amountIn firstOf ofType
+  amount-back = ap (λ (is : List Item). allocationIn (firstOf 0x0015 is)) tlvs-amount ∙ read-back .allocation amount .fields .1
+
+  pub port-back : TablesTaken t → p < t .ports → portIn t reply ≡ At p
+  unfolding portIn idIn firstOf ofType tlvsIn
+  port-back k l =
+      ap (λ (is : List Item). portOf (t .ids) (t .ports) (circuitId (firstOf 0x1000 is))) tlvs-amount
+      ∙ ap (portOf (t .ids) (t .ports)) (read-back .target (idAt (t .ids) p) .fields .1)
+      ∙ own-port (t .ids) (t .ports) (t .channels) (t .channelCount) (t .entries) (t .entryCount) k p l

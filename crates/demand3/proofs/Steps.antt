@@ -1,0 +1,154 @@
+-- Agreement goes on where a card's pool or one port's record changes.
+--     counter-step     the transaction counter alone changes
+--     pool-step        the flows of port p change, and those of no other port
+--     port-set         a record that is written is read back
+--     port-step        the record of port p changes, its flows are kept
+-- Assumes nothing.
+use Prim.Native.Nat.{ℕ, _≤_, _<_}
+use mathlib.Core.Path.{_≡_, refl, sym, ap, subst, _∙_}
+use mathlib.Core.Bool.{Bool, true, false}
+use mathlib.Core.List.{List, []}
+use native.Mathlib.Omega.{arith}
+use lib.ListN.{length-set}
+use lib.Seq.{getD-set-same, getD-set-other}
+use Rattle.ports.specs.declared.Port.{Port}
+use Rattle.ports.specs.declared.Counter.{Counter}
+use Rattle.ports.specs.Ports.{freshPort}
+use Rattle.pool.specs.declared.Pool.{Pool}
+use Rattle.pool.specs.Pool.{poolSum, extrasOf}
+use Rattle.pool.proofs.Whole.{Whole}
+use Rattle.pool.proofs.Law.{Owned}
+use Rattle.card.specs.declared.Card.{Card}
+use Rattle.card.specs.Cards.{portAt, withPort, withPool}
+use Rattle.joins.specs.Joins.{withCounter}
+use Rattle.demand3.specs.Calls.{Tables}
+use Rattle.demand3.specs.Ledger.{Held, Line, Ledger, write, withFlows}
+use Rattle.demand3.specs.Claim.{charges, Once}
+use Rattle.demand3.proofs.Rows.{flowSum, AllListed}
+use Rattle.demand3.proofs.Agree.{PortAgrees, Agree, written}
+
+-- what a change of the pool owes, where hs are to be the flows of port p, whose line is x
+pub record PoolStep (t : Tables) (old new : Pool) (p : ℕ) (x : Line) (hs : List Held) : Type 0 where
+  pub whole : Whole new
+  pub owned : Owned (new .owner)
+  pub extras : extrasOf new ≤ 256
+  pub others : (q : ℕ) → q < 64 → (q ≡ p → ⊥) → (w : ℕ → Bool → ℕ) → poolSum new q w ≡ poolSum old q w
+  pub flows : (w : ℕ → Bool → ℕ) → poolSum new p w ≡ flowSum t w hs
+  pub rows : AllListed t hs
+  pub once : Once hs
+  pub bounded : charges t (withFlows x hs) ≤ x .delegation
+  pub idle : x .isUp ≡ false → hs ≡ []
+
+-- the line of a port whose flows are kept
+abbrev pub lineOf : Bool → ℕ → List Held → Line
+lineOf u d hs = record { isUp = u; delegation = d; flows = hs }
+
+-- what a change of the record of a port with line x owes
+pub record PortStep (t : Tables) (y : Port) (x : Line) (u : Bool) (d : ℕ) : Type 0 where
+  pub is-up : y .up ≡ u
+  pub delegation : y .delegation ≡ d
+  pub bounded : charges t x ≤ d
+  pub idle : u ≡ false → x .flows ≡ []
+  pub asks-more : y .asking ≡ true → y .delegation < y .required
+
+-- an open request asks for more than there is
+abbrev AsksMore : Port → Type 0
+AsksMore y = y .asking ≡ true → y .delegation < y .required
+
+-- a port agrees also on a card where its record and its sums are the same
+carried : (t : Tables) (old new : Card) (x : Line) (q : ℕ) → portAt old q ≡ portAt new q
+    → ((w : ℕ → Bool → ℕ) → poolSum (new .pool) q w ≡ poolSum (old .pool) q w) → PortAgrees t old x q → PortAgrees t new x q
+carried t old new x q same sums b =
+    record {
+      is-up = ap (λ (y : Port). y .up) (sym same) ∙ b .is-up;
+      delegation = ap (λ (y : Port). y .delegation) (sym same) ∙ b .delegation;
+      flows = λ w. sums w ∙ b .flows w;
+      rows = b .rows;
+      once = b .once;
+      bounded = b .bounded;
+      idle = b .idle;
+      asks-more = subst AsksMore same (b .asks-more);
+    }
+
+module _ (t : Tables) (card : Card) (l : Ledger) (a : Agree t card l) where
+  pub counter-step : (c : Counter) → Agree t (withCounter card c) l
+  counter-step c =
+      record {
+        ports = a .ports;
+        channels = a .channels;
+        entries = a .entries;
+        white = a .white;
+        add = a .add;
+        records = a .records;
+        whole = a .whole;
+        owned = a .owned;
+        extras = a .extras;
+        at = λ q h. carried t card (withCounter card c) (l q) q refl (λ w. refl) (a .at q h);
+      }
+
+  module _ (p : ℕ) (port : p < 64) where
+    module _ (pool : Pool) (hs : List Held) where
+      pub pool-step : PoolStep t (card .pool) pool p (l p) hs → Agree t (withPool card pool) (write l p (withFlows (l p) hs))
+      pool-step s =
+          record {
+            ports = a .ports;
+            channels = a .channels;
+            entries = a .entries;
+            white = a .white;
+            add = a .add;
+            records = a .records;
+            whole = s .whole;
+            owned = s .owned;
+            extras = s .extras;
+            at = written l p (withFlows (l p) hs) (λ q x. PortAgrees t (withPool card pool) x q) own
+                (λ q h n. carried t card (withPool card pool) (l q) q refl (s .others q h n) (a .at q h));
+          }
+        where
+          own : PortAgrees t (withPool card pool) (withFlows (l p) hs) p
+          own =
+              let b = a .at p port in
+              record {
+                is-up = b .is-up;
+                delegation = b .delegation;
+                flows = s .flows;
+                rows = s .rows;
+                once = s .once;
+                bounded = s .bounded;
+                idle = s .idle;
+                asks-more = b .asks-more;
+              }
+
+    pub port-set : (y : Port) → portAt (withPort card p y) p ≡ y
+    port-set y = getD-set-same (card .ports) p y freshPort (omega (arith, a .records))
+
+    module _ (y : Port) (u : Bool) (d : ℕ) where
+      pub port-step : PortStep t y (l p) u d → Agree t (withPort card p y) (write l p (lineOf u d (l p .flows)))
+      unfolding charges
+      port-step s =
+          record {
+            ports = a .ports;
+            channels = a .channels;
+            entries = a .entries;
+            white = a .white;
+            add = a .add;
+            records = length-set (card .ports) p y ∙ a .records;
+            whole = a .whole;
+            owned = a .owned;
+            extras = a .extras;
+            at = written l p (lineOf u d (l p .flows)) (λ q x. PortAgrees t (withPort card p y) x q) own
+                (λ q h n. carried t card (withPort card p y) (l q) q (sym (getD-set-other (card .ports) p q y freshPort n)) (λ w. refl) (a .at q h));
+          }
+        where
+          own : PortAgrees t (withPort card p y) (lineOf u d (l p .flows)) p
+          own =
+              let b = a .at p port in
+              record {
+                is-up = ap (λ (z : Port). z .up) (port-set y) ∙ s .is-up;
+                delegation = ap (λ (z : Port). z .delegation) (port-set y) ∙ s .delegation;
+                flows = b .flows;
+                rows = b .rows;
+                once = b .once;
+                bounded = s .bounded;
+                idle = s .idle;
+                asks-more = subst AsksMore (sym (port-set y)) (s .asks-more);
+              }

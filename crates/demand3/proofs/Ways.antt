@@ -1,0 +1,125 @@
+-- What any call comes to on any card, taken apart once: the ends that there are. Assumes nothing.
+use Prim.Native.Nat.{ℕ}
+use mathlib.Core.Path.{_≡_, refl}
+use mathlib.Core.Bool.{Bool, true, false, cond}
+use mathlib.Core.List.{List}
+use lib.ListN.{drop}
+use lib.Dec.{eqb, leb, ltb}
+use Rattle.header.specs.declared.Header.{Header}
+use Rattle.header.specs.Header.{headerIn}
+use Rattle.flows.specs.declared.Flow.{Flow}
+use Rattle.flows.specs.Flows.{goodFlow}
+use Rattle.rows.specs.declared.Found.{Found}
+use Rattle.rows.specs.declared.Found.the-variants.{At, Nothing}
+use Rattle.channels.specs.Channels.{channelOf}
+use Rattle.lists.specs.declared.Decision.{Decision}
+use Rattle.lists.specs.declared.Decision.the-variants.{Black, Grey, White, None}
+use Rattle.lists.specs.Lists.{listDecision}
+use Rattle.ports.specs.Ports.{broughtUp, takenDown, closed, delegated, mayAsk, answers, within}
+use Rattle.pool.specs.declared.Pool.{Pool}
+use Rattle.pool.specs.Pool.{isActive, committedOf, endedAll}
+use Rattle.card.specs.declared.Card.{Card}
+use Rattle.card.specs.Cards.{hasPort, portAt, withPort, withPool}
+use Rattle.card.specs.Outcome.{Outcome, keeps, becomes, writes}
+use Rattle.card.specs.Calls.{portUpOf, portDownOf, setDelegationOf, leaveRow, leaveOf}
+use Rattle.joins.specs.Joins.{admitNumber, whiteOf, greyOf, byList, joinRow, joinOf}
+use Rattle.joins.specs.Asks.{askedOf, askOf}
+use Rattle.control.specs.Control.{controlled}
+use Rattle.transfers.specs.Transfers.{transferFails, transferGives, transferred}
+use Rattle.messages.specs.Messages.{receivedOf}
+use Rattle.demand3.specs.Calls.{Tables, Call, outcomeOf}
+use Rattle.demand3.specs.Calls.Call.{portUp, portDown, setDelegation, join, leave, ask, message}
+use Rattle.demand3.proofs.Views.{Came, kept, notice, refused, ordered, reduced, queried, answered, came}
+use Rattle.demand3.proofs.Transfers.{Reallocation, fails, gives, reallocation}
+
+module _ (t : Tables) (card : Card) (x : Call) where
+  pub data Way : Outcome → Type 0 where
+    -- the card is kept: nothing is written, or a reply
+    stays : (n : ℕ) → Way (keeps card n)
+    replies : (reply : List ℕ) → Way (writes card reply)
+    -- one port's record changes
+    rises : (p : ℕ) → Way (becomes (withPort card p (broughtUp (portAt card p))))
+    falls : (p : ℕ) → Way (becomes (withPool (withPort card p (takenDown (portAt card p))) (endedAll (card .pool) p)))
+    sets : (p amount : ℕ) → Way (becomes (withPort card p (delegated (portAt card p) amount)))
+    closes : (p : ℕ) → Way (becomes (withPort card p (closed (portAt card p))))
+    reduces : (h : Header) (p amount : ℕ) → Way (transferGives (t .ids) card h p amount)
+    asks : (p required preferred room : ℕ) → x ≡ ask p required preferred room → portAt card p .up ≡ true → Way (askedOf (t .ids) card p required preferred)
+    -- flows begin or end, by the host or by commands
+    flows : (pool : Pool) → Way (becomes (withPool card pool))
+    commanded : (h : Header) (p : ℕ) (s : List ℕ) → Way (controlled (t .ids) (t .channels) card h p s)
+    -- a transaction number is used
+    grey : (p : ℕ) (f : Flow) → Way (greyOf (t .ids) card p f)
+
+  by : (b : Bool) (v w : Outcome) → (b ≡ true → Way v) → Way w → Way (cond b v w)
+  by true v w f g = f refl
+  by false v w f g = g
+
+  leave-way : (p : ℕ) (r : Found) → Way (leaveRow card p r)
+  unfolding leaveRow
+  leave-way p Nothing = stays 10
+  leave-way p (At k) = by (isActive (card .pool) p k) _ _ (λ e. flows _) (stays 10)
+
+  list-way : (p : ℕ) (f : Flow) (k : ℕ) (d : Decision) → Way (byList (t .ids) (t .channels) card p f k d)
+  unfolding byList whiteOf
+  list-way p f k White = by (eqb (admitNumber (t .channels) card (card .«white_cac») p k) 0) _ _ (λ e. flows _) (stays _)
+  list-way p f k Grey = grey p f
+  list-way p f k Black = stays 3
+  list-way p f k None = stays 3
+
+  join-way : (p : ℕ) (f : Flow) (r : Found) → Way (joinRow (t .ids) (t .channels) (t .entries) card p f r)
+  unfolding joinRow
+  join-way p f Nothing = stays 9
+  join-way p f (At k) = by (isActive (card .pool) p k) _ _ (λ e. stays 1) (list-way p f k (listDecision (t .entries) (card .«entry_count») f))
+
+  reduced-way : (h : Header) (p : ℕ) (o : Outcome) → Reallocation (t .ids) (t .channels) card h p o → Way o
+  unfolding transferFails
+  reduced-way h p o (fails code) = replies _
+  reduced-way h p o (gives amount) = reduces h p amount
+
+  transferred-way : (h : Header) (p amount : ℕ) → Way (transferred card h p amount)
+  unfolding transferred
+  transferred-way h p amount =
+      by (answers (portAt card p) (h .transaction)) _ _
+      (λ e. by (eqb (h .result) 4) _ _ (λ f. closes p)
+      (by (within (portAt card p) amount) _ _ (λ g. sets p amount) (stays 16)))
+      (stays 16)
+
+  came-way : (m : List ℕ) (o : Outcome) → Came (t .ids) (t .channels) card m o → Way o
+  came-way m o (kept n z) = stays n
+  came-way m o (notice k r) = stays 0
+  came-way m o (refused code n) = replies _
+  came-way m o (ordered p k s) = commanded (headerIn m) p (drop 16 m)
+  came-way m o (reduced p k s) = reduced-way (headerIn m) p _ (reallocation (t .ids) (t .channels) card (headerIn m) p _)
+  came-way m o (queried reply g n e) = replies reply
+  came-way m o (answered p k a s) = transferred-way (headerIn m) p _
+
+  way : (y : Call) → x ≡ y → Way (outcomeOf t card y)
+  unfolding outcomeOf portUpOf portDownOf setDelegationOf leaveOf joinOf askOf
+  way (portUp p) e = by (hasPort card p) _ _ (λ h. rises p) (stays 7)
+  way (portDown p) e = by (hasPort card p) _ _ (λ h. by (portAt card p .up) _ _ (λ u. falls p) (stays 0)) (stays 7)
+  way (setDelegation p amount) e =
+      by (hasPort card p) _ _ (λ h. by (leb (committedOf (t .channels) (card .pool) p) amount) _ _ (λ c. sets p amount) (stays 11)) (stays 7)
+  way (join p f room) e =
+      by (ltb room 4608) _ _ (λ r. stays 13)
+      (by (hasPort card p) _ _
+      (λ h. by (portAt card p .up) _ _
+      (λ u. by (goodFlow f) _ _ (λ g. join-way p f (channelOf (t .channels) (card .«channel_count») f)) (stays 8))
+      (stays 6))
+      (stays 7))
+  way (leave p f) e =
+      by (hasPort card p) _ _
+      (λ h. by (portAt card p .up) _ _
+      (λ u. by (goodFlow f) _ _ (λ g. leave-way p (channelOf (t .channels) (card .«channel_count») f)) (stays 8))
+      (stays 6))
+      (stays 7)
+  way (ask p required preferred room) e =
+      by (ltb room 4608) _ _ (λ r. stays 13)
+      (by (hasPort card p) _ _
+      (λ h. by (portAt card p .up) _ _
+      (λ u. by (mayAsk (portAt card p) required preferred) _ _ (λ m. asks p required preferred room e u) (stays 12))
+      (stays 6))
+      (stays 7))
+  way (message m room) e = came-way m (receivedOf (t .ids) (t .channels) card m room) (came (t .ids) (t .channels) card m room)
+
+  pub call-way : Way (outcomeOf t card x)
+  call-way = way x refl

@@ -1,0 +1,89 @@
+-- A host's calls, the builds that answer them, and lists of calls. Assumes nothing: these are definitions.
+use Prim.Native.Nat.{ℕ}
+use mathlib.Core.Bool.{Bool}
+use mathlib.Core.List.{List, [], _∷_}
+use Rattle.flows.specs.declared.Flow.{Flow}
+use Rattle.card.specs.declared.Card.{Card}
+use Rattle.card.specs.declared.Started.{Started}
+use Rattle.card.specs.Outcome.{Outcome}
+use Rattle.card.specs.Calls.{portUpOf, portDownOf, setDelegationOf, leaveOf}
+use Rattle.card.specs.Start.{startOf}
+use Rattle.card.specs.Figures.{upOf, delegationOf, committedAt}
+use Rattle.joins.specs.Joins.{joinOf}
+use Rattle.joins.specs.Asks.{askOf}
+use Rattle.listing.specs.Listing.{activeAt}
+use Rattle.messages.specs.Messages.{receivedOf}
+
+-- what start is given beside the first transaction number: the tables with their counts, and the two switches
+pub record Tables : Type 0 where
+  pub ids : List ℕ
+  pub ports : ℕ
+  pub channels : List ℕ
+  pub channelCount : ℕ
+  pub entries : List ℕ
+  pub entryCount : ℕ
+  pub whiteCac : Bool
+  pub addCac : Bool
+
+-- a call with its arguments; `room` is how many octets the lent reply buffer has
+pub data Call : Type 0 where
+  portUp : (p : ℕ) → Call
+  portDown : (p : ℕ) → Call
+  setDelegation : (p amount : ℕ) → Call
+  join : (p : ℕ) (f : Flow) (room : ℕ) → Call
+  leave : (p : ℕ) (f : Flow) → Call
+  ask : (p required preferred room : ℕ) → Call
+  message : (octets : List ℕ) (room : ℕ) → Call
+
+-- what a host has of a card: its start, its calls, and the figures that it reads
+pub record Build : Type 0 where
+  pub start : Tables → ℕ → Started
+  pub outcome : Tables → Card → Call → Outcome
+  pub isUp : Card → ℕ → Bool
+  pub delegation : Card → ℕ → ℕ
+  pub committed : Tables → Card → ℕ → ℕ
+  pub active : Tables → Card → ℕ → Flow → Bool
+
+-- what each of our calls is proved to come to
+unfoldable pub outcomeOf : Tables → Card → Call → Outcome
+outcomeOf t card (portUp p) = portUpOf card p
+outcomeOf t card (portDown p) = portDownOf card p
+outcomeOf t card (setDelegation p amount) = setDelegationOf (t .channels) card p amount
+outcomeOf t card (join p f room) = joinOf (t .ids) (t .channels) (t .entries) card p f room
+outcomeOf t card (leave p f) = leaveOf (t .channels) card p f
+outcomeOf t card (ask p required preferred room) = askOf (t .ids) card p required preferred room
+outcomeOf t card (message octets room) = receivedOf (t .ids) (t .channels) card octets room
+
+unfoldable pub startedOf : Tables → ℕ → Started
+startedOf t first =
+    startOf (t .ids) (t .ports) (t .channels) (t .channelCount) (t .entries) (t .entryCount) (t .whiteCac) (t .addCac) first
+
+-- our build: the definitions that the public functions are proved to return
+abbrev pub ours : Build
+ours =
+    record {
+      start = startedOf;
+      outcome = outcomeOf;
+      isUp = upOf;
+      delegation = delegationOf;
+      committed = λ t. committedAt (t .channels);
+      active = λ t. activeAt (t .channels);
+    }
+
+-- a list of calls, each of which gets the card as the last one left it
+unfoldable pub cardAfter : Build → Tables → Card → List Call → Card
+cardAfter b t card [] = card
+cardAfter b t card (x ∷ xs) = cardAfter b t (b .outcome t card x .card) xs
+
+-- what the host saw of a call: its arguments, the number, and the reply
+pub record Seen : Type 0 where
+  pub call : Call
+  pub number : ℕ
+  pub reply : List ℕ
+
+abbrev pub seen : Build → Tables → Card → Call → Seen
+seen b t card x = record { call = x; number = b .outcome t card x .number; reply = b .outcome t card x .reply }
+
+unfoldable pub history : Build → Tables → Card → List Call → List Seen
+history b t card [] = []
+history b t card (x ∷ xs) = seen b t card x ∷ history b t (b .outcome t card x .card) xs

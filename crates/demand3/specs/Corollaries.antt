@@ -1,0 +1,101 @@
+-- What follows from demand 3, and of the calls beside it. Assumes nothing: these are definitions; the statements are proved in proofs/, and owed
+-- with the claim.
+use Prim.Native.Nat.{ℕ, suc, _+_, _≤_, _<_}
+use mathlib.Core.Path.{_≡_}
+use mathlib.Core.List.{List, [], _∷_, _++_}
+use mathlib.Core.Logic.{_⊎_}
+use lib.ListN.{length}
+use Rattle.flows.specs.declared.Flow.{Flow}
+use Rattle.rows.specs.declared.Found.the-variants.{At}
+use Rattle.lists.specs.declared.Decision.the-variants.{White}
+use Rattle.lists.specs.Lists.{listDecision}
+use Rattle.card.specs.declared.Card.{Card}
+use Rattle.demand3.specs.Calls.{Tables, Call, ours, outcomeOf, startedOf, cardAfter, history}
+use Rattle.demand3.specs.Calls.Call.{portUp, portDown, setDelegation, join, leave, ask, message}
+use Rattle.demand3.specs.Ledger.{Ledger, kindIn, resultIn, portIn, ledgerOf}
+use Rattle.demand3.specs.Claim.{charges, rateOf, Wanted, Reaches, behind, Acted}
+
+-- a call is about port p
+unfoldable pub Names : Tables → Call → ℕ → Type 0
+Names t (portUp q) p = q ≡ p
+Names t (portDown q) p = q ≡ p
+Names t (setDelegation q amount) p = q ≡ p
+Names t (join q f room) p = q ≡ p
+Names t (leave q f) p = q ≡ p
+Names t (ask q required preferred room) p = q ≡ p
+Names t (message m room) p = portIn t m ≡ At p
+
+unfoldable pub NoneNames : Tables → List Call → ℕ → Type 0
+NoneNames t [] p = Unit {0}
+NoneNames t (x ∷ xs) p = (Names t x p → ⊥) × NoneNames t xs p
+
+-- after a list of calls from a start that was taken
+abbrev pub cardOf : Tables → ℕ → List Call → Card
+cardOf t first calls = cardAfter ours t (startedOf t first .card) calls
+
+abbrev pub linesOf : Tables → ℕ → List Call → Ledger
+linesOf t first calls = ledgerOf t (history ours t (startedOf t first .card) calls)
+
+-- the rate of f fits beside what port p's line charges
+abbrev pub Fits : Tables → Ledger → ℕ → Flow → Type 0
+Fits t l p f = charges t (l p) + rateOf t f ≤ l p .delegation
+
+-- "Whatever the calls for other ports do, they cannot take the first four": calls that name other ports leave the port's line as it is,
+-- and behind them, with under 4 flows and a rate that fits, a white-listed join and an Add that is reached start
+pub record FirstFour (t : Tables) (first : ℕ) (xs ys : List Call) (p : ℕ) : Type 0 where
+  pub line : linesOf t first (xs ++ ys) p ≡ linesOf t first xs p
+  pub join-starts : (f : Flow) (room : ℕ) → length (linesOf t first xs p .flows) < 4 → Fits t (linesOf t first xs) p f
+      → Wanted t (linesOf t first xs) p f → listDecision (t .entries) (t .entryCount) f ≡ White → 4608 ≤ room
+      → outcomeOf t (cardOf t first (xs ++ ys)) (join p f room) .number ≡ 0
+  pub add-starts : (m : List ℕ) (room : ℕ) (f : Flow) (before after : List (List ℕ)) → Reaches t (linesOf t first (xs ++ ys)) m p f before after
+      → length (behind t (linesOf t first (xs ++ ys)) p before p .flows) < 4 → Fits t (behind t (linesOf t first (xs ++ ys)) p before) p f
+      → 4608 ≤ room → Acted (outcomeOf t (cardOf t first (xs ++ ys)) (message m room)) m (suc (length before))
+
+-- on this card no Bandwidth Transfer (147) for port p is taken
+abbrev pub TakesNone : Tables → Card → ℕ → Type 0
+TakesNone t card p = (m : List ℕ) (room : ℕ) → kindIn m ≡ 147 → portIn t m ≡ At p → outcomeOf t card (message m room) .number ≡ 0 → ⊥
+
+-- the host asks for port p
+unfoldable pub Asks : Call → ℕ → Type 0
+Asks (portUp q) p = ⊥
+Asks (portDown q) p = ⊥
+Asks (setDelegation q amount) p = ⊥
+Asks (join q f room) p = ⊥
+Asks (leave q f) p = ⊥
+Asks (ask q required preferred room) p = q ≡ p
+Asks (message m room) p = ⊥
+
+unfoldable pub NoneAsks : List Call → ℕ → Type 0
+NoneAsks [] p = Unit {0}
+NoneAsks (y ∷ ys) p = (Asks y p → ⊥) × NoneAsks ys p
+
+-- nor behind any calls, port up among them, until the host asks for port p
+abbrev pub NoneUntilAsked : Tables → Card → ℕ → Type 0
+NoneUntilAsked t card p = (ys : List Call) → NoneAsks ys p → TakesNone t (cardAfter ours t card ys) p
+
+-- a message that may set a delegation: a 146, or a 147 with Result 3
+abbrev pub Moves : List ℕ → Type 0
+Moves m = (kindIn m ≡ 146) ⊎ ((kindIn m ≡ 147) × (resultIn m ≡ 3))
+
+pub record Corollaries : Type 0 where
+  pub first-four : (t : Tables) (first : ℕ) → startedOf t first .number ≡ 0 → (xs ys : List Call) (p : ℕ) → p < t .ports
+      → NoneNames t ys p → FirstFour t first xs ys p
+  -- a refused call, any number but 0 and 2, changes nothing and writes nothing, on any card
+  pub refused : (t : Tables) (card : Card) (x : Call) → (outcomeOf t card x .number ≡ 0 → ⊥) → (outcomeOf t card x .number ≡ 2 → ⊥)
+      → (outcomeOf t card x .card ≡ card) × (outcomeOf t card x .reply ≡ [])
+  -- the operator's incident: a card freshly started takes no answer to a request of before, whatever is called, until the host asks
+  pub fresh-takes-none : (t : Tables) (first : ℕ) → startedOf t first .number ≡ 0 → (p : ℕ) → NoneUntilAsked t (startedOf t first .card) p
+  -- after set delegation, port down or a successful 146 no earlier request can be answered, then or later
+  pub closed-by-host : (t : Tables) (first : ℕ) → startedOf t first .number ≡ 0 → (xs : List Call) (p amount : ℕ)
+      → outcomeOf t (cardOf t first xs) (setDelegation p amount) .number ≡ 0
+      → NoneUntilAsked t (outcomeOf t (cardOf t first xs) (setDelegation p amount) .card) p
+  pub closed-by-down : (t : Tables) (first : ℕ) → startedOf t first .number ≡ 0 → (xs : List Call) (p : ℕ)
+      → outcomeOf t (cardOf t first xs) (portDown p) .number ≡ 0 → NoneUntilAsked t (outcomeOf t (cardOf t first xs) (portDown p) .card) p
+  pub closed-by-146 : (t : Tables) (first : ℕ) → startedOf t first .number ≡ 0 → (xs : List Call) (m : List ℕ) (room p : ℕ)
+      → kindIn m ≡ 146 → portIn t m ≡ At p → kindIn (outcomeOf t (cardOf t first xs) (message m room) .reply) ≡ 147
+      → resultIn (outcomeOf t (cardOf t first xs) (message m room) .reply) ≡ 3
+      → NoneUntilAsked t (outcomeOf t (cardOf t first xs) (message m room) .card) p
+  -- the delegation changes by set delegation, a 146 or a taken 147 alone
+  pub delegation-kept : (t : Tables) (first : ℕ) → startedOf t first .number ≡ 0 → (xs : List Call) (x : Call) (p : ℕ) → p < t .ports
+      → ((amount : ℕ) → x ≡ setDelegation p amount → ⊥) → ((m : List ℕ) (room : ℕ) → x ≡ message m room → Moves m → ⊥)
+      → ours .delegation (outcomeOf t (cardOf t first xs) x .card) p ≡ ours .delegation (cardOf t first xs) p

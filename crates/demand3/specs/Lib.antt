@@ -1,0 +1,5 @@
+pub mod Calls
+pub mod Ledger
+pub mod Claim
+pub mod Builds
+pub mod Corollaries

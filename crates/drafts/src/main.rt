@@ -1,0 +1,87 @@
+// Plays a script of calls from standard input, such as the example messages of the sources (the file stdin), and writes what each call answers.
+// A line is a name, a verb of one letter and its octets in hexadecimal, with one space between them:
+//   n  start again: four ports p001, port10, port20, port11, all up, p001 with delegation 2000; 01 for MRepCtl-CAC on
+//   m  a message                     u, x  port up, port down: port
+//   j, l  join, leave: port, group, source (IPv4; without a source no octets)
+//   d  set delegation: port, amount  a  ask: port, required, preferred
+// Written is the name, the number and the reply's octets; for n nothing. A line that begins with '#' is passed over.
+mod start;
+mod text;
+
+use card::Card;
+use card::Done;
+use flows::Flow;
+use start::Tables;
+
+fn main() {
+    let t = start::filled();
+    let mut c = start::ready(t, false);
+    let mut script = io::large_buffer();
+    let n = io::read_full(0, &mut script);
+    let mut at: usize = 0;
+    while at < n {
+        let e = text::until(&script[..n], at, b'\n');
+        c = line(c, t, &script[at..e]);
+        at = e + 1;
+    }
+}
+
+fn line(card: Card, t: Tables, s: &[u8]) -> Card {
+    let v = text::until(s, 0, b' ') + 1;
+    if s.len() <= v {
+        return card;
+    }
+    let verb = s[v];
+    if s[0] == b'#' {
+        return card;
+    }
+    let mut octets = [0u8; 4097];
+    let n = hex::octets_of(text::from(s, v + 2), &mut octets);
+    if verb == b'n' {
+        return start::ready(t, octets[0] == 1);
+    }
+    let mut reply = [0u8; 4608];
+    let done = call(card, t, verb, &octets[..n], &mut reply);
+    tell(text::first(s, v), done, &reply);
+    done.card
+}
+
+fn call(card: Card, t: Tables, verb: u8, o: &[u8], reply: &mut [u8]) -> Done {
+    let ids = t.ids;
+    let channels = t.channels;
+    let entries = t.entries;
+    let p = octets::read8(o, 0) as usize;
+    let x = text::number(o, 1);
+    let y = text::number(o, 5);
+    match verb {
+        b'm' => messages::message(card, &ids, &channels, o, reply),
+        b'j' => joins::join(card, &ids, &channels, &entries, p, flow(x, y), reply),
+        b'u' => card::port_up(card, p),
+        b'x' => card::port_down(card, p),
+        b'l' => card::leave(card, &channels, p, flow(x, y)),
+        b'd' => card::set_delegation(card, &channels, p, x),
+        b'a' => joins::ask(card, &ids, p, x, y, reply),
+        _ => card::kept(card, 0),
+    }
+}
+
+fn flow(group: u32, source: u32) -> Flow {
+    Flow {
+        family: 1,
+        sourced: if source == 0 { 0 } else { 1 },
+        group: [group, 0, 0, 0],
+        source: [source, 0, 0, 0],
+    }
+}
+
+// The name and the space behind it, the number, and the reply if there is one.
+fn tell(name: &[u8], done: Done, reply: &[u8]) {
+    io::write_all(1, name);
+    io::print_decimal(1, done.number as u64);
+    let n = done.length;
+    if 0 < n {
+        io::write_all(1, b" ");
+        hex::print_octets(reply, n);
+    }
+    io::write_all(1, b"\n");
+}

@@ -1,0 +1,101 @@
+// A port's active flows in order of family, group, source (none first).
+use card::Card;
+use flows::Flow;
+use pool::Pool;
+use pool::Rows;
+use rows::Found;
+ghost use mathlib.Core.Path.{_≡_};
+ghost use mathlib.Core.List.{[]};
+ghost use Prim.Native.Nat.{_+_, _≤_, _<_};
+ghost use lib.ListN.{take};
+ghost use Rattle.octets.specs.Writing.{over};
+ghost use Rattle.pool.specs.Pool.{listed, rowsOf};
+ghost use Rattle.listing.specs.Listing.{rowBefore, placed, inOrder, Listed, rowsInOrder, flowsAt, activeAt};
+
+// ---- what a host may read
+
+// The channels of the port's active flows, in order.
+pub fn flows_of(card: Card, channels: &[u32; 2816], p: usize) -> Rows
+    ensures { λ r. ⌜ r ≡ listed (flowsAt (now (channels .entry)) card p) ⌝ }
+{
+    if !card::is_port(card.port_count, p) {
+        return no_rows();
+    }
+    let pool = card.pool;
+    rows_in_order(channels, pool, p as u8)
+}
+
+// The flow is active on the port.
+pub fn is_active(card: Card, channels: &[u32; 2816], p: usize, f: Flow) -> bool
+    ensures { λ r. ⌜ r ≡ activeAt (now (channels .entry)) card p f ⌝ }
+{
+    if !card::is_port(card.port_count, p) {
+        return false;
+    }
+    let found = channels::channel_of(channels, card.channel_count, f);
+    match found {
+        Found::Nothing => false,
+        Found::At(k) => {
+            let pool = card.pool;
+            pool::is_active(&pool.owner, &pool.channel, p as u8, k)
+        }
+    }
+}
+
+// ---- order
+
+pub fn rows_in_order(channels: &[u32; 2816], pool: Pool, p: u8) -> Rows
+    ensures rows { λ r. ⌜ r ≡ listed (rowsInOrder (now (channels .entry)) pool p) ⌝ }
+    ensures order { λ _. ⌜ Listed (now (channels .entry)) (take 16 (rowsOf pool p)) ⌝ }
+{
+    let found = pool::rows_of(&pool.owner, &pool.channel, p);
+    let n = found.count;
+    let rows = found.rows;
+    let mut done = no_rows();
+    let mut i: usize = 0;
+    while i < n {
+        done = place(channels, done, rows[i]);
+        i += 1;
+    }
+    done
+}
+
+fn no_rows() -> Rows
+    ensures { λ r. ⌜ r ≡ listed [] ⌝ }
+{
+    Rows {
+        count: 0,
+        rows: [0u8; 16],
+    }
+}
+
+// Row k among those that are in order: of the two at each place the one that goes first stays, and the other goes on.
+fn place(channels: &[u32; 2816], done: Rows, k: u8) -> Rows
+    requires { ⌜ done .count < 16 ⌝ }
+    ensures count { λ r. ⌜ r .count ≡ done .count + 1 ⌝ }
+    ensures rows { λ r. ⌜ r .rows ≡ over (placed (rowBefore (now (channels .entry))) k (take (done .count) (done .rows))) (done .rows) ⌝ }
+{
+    let n = done.count;
+    let mut rows = done.rows;
+    let mut carried = k;
+    let mut i: usize = 0;
+    while i < n {
+        let j = rows[i];
+        if row_before(channels, carried, j) {
+            rows[i] = carried;
+            carried = j;
+        }
+        i += 1;
+    }
+    rows[n] = carried;
+    Rows { count: n + 1, rows }
+}
+
+fn row_before(channels: &[u32; 2816], k: u8, j: u8) -> bool
+    ensures { λ r. ⌜ r ≡ rowBefore (now (channels .entry)) k j ⌝ }
+{
+    flows::flow_before(
+        channels::channel_at(channels, k),
+        channels::channel_at(channels, j),
+    )
+}

@@ -1,0 +1,134 @@
+-- The cases of a message, each from the tests that lead to it.
+--     size-least, rest-short     how long a message that is handed in is, and what follows its header
+--     no-room, ..                13, and 15 for size and header
+--     verdict-offered, ..        a transfer, by what the table gives
+--     answer-taken, ..           by type and Result
+--     verdict-requested, of-144, ..   a request, by what the table gives and by type
+-- Assumes nothing.
+use mathlib.Core.Path.{_≡_, refl, sym, ap, _∙_}
+use mathlib.Core.Bool.{true, false}
+use mathlib.Core.List.{List, [], _∷_}
+use Prim.Native.Nat.{ℕ, _≤_}
+use native.Mathlib.Omega.{arith}
+use lib.ListN.{length, drop, length-drop}
+use lib.Dec.{eqb, ltb, leb}
+use borrow.Author.Tests.{leb-true}
+use Rattle.octets.proofs.Tests.{each}
+use Rattle.header.specs.declared.Header.{Header}
+use Rattle.header.specs.declared.Head.the-variants.{Unusable, Usable}
+use Rattle.header.specs.Header.{sizeOk, headIn}
+use Rattle.items.specs.Items.{itemsOf, firstOf}
+use Rattle.fields.specs.declared.Request.{Request}
+use Rattle.fields.specs.Fields.{allocationIn, requestIn}
+use Rattle.card.specs.declared.Card.{Card}
+use Rattle.card.specs.Outcome.{Outcome, keeps}
+use Rattle.checks.specs.declared.Verdict.{Verdict}
+use Rattle.checks.specs.declared.Verdict.the-variants.{Refused, Passed}
+use Rattle.checks.specs.Table.{tableOf}
+use Rattle.control.specs.Control.{controlled}
+use Rattle.transfers.specs.Transfers.{reallocated}
+use Rattle.transfers.proofs.Cases.{transfer-silent}
+use Rattle.queries.specs.Queries.{delegationQuery, flowQuery}
+use Rattle.messages.specs.Messages.{isAnswer, isNotice, byType, requested, offered, byResult, byHead, receivedOf}
+
+-- ---- size and header
+module _ (m : List ℕ) (size : sizeOk m ≡ true) where
+  pub size-least : 16 ≤ length m
+  unfolding sizeOk
+  size-least = leb-true 16 (length m) (each (leb 16 (length m) ∷ leb (length m) 4096 ∷ []) size .0)
+
+  pub rest-short : length (drop 16 m) ≤ 4096
+  unfolding sizeOk
+  rest-short =
+      let h = leb-true (length m) 4096 (each (leb 16 (length m) ∷ leb (length m) 4096 ∷ []) size .1 .0) in
+      simp length-drop (omega arith)
+
+module _ (ids channels : List ℕ) (card : Card) (m : List ℕ) (room : ℕ) where
+  abbrev comes : Outcome
+  comes = receivedOf ids channels card m room
+
+  pub no-room : ltb room 4608 ≡ true → keeps card 13 ≡ comes
+  unfolding receivedOf
+  no-room t = rw t
+
+  module _ (full : ltb room 4608 ≡ false) where
+    pub bad-size : sizeOk m ≡ false → keeps card 15 ≡ comes
+    unfolding receivedOf
+    bad-size t = rw (full, t)
+
+    module _ (size : sizeOk m ≡ true) where
+      pub unusable-is : headIn m ≡ Unusable → keeps card 15 ≡ comes
+      unfolding receivedOf byHead
+      unusable-is e = rw (full, size, e)
+
+      pub usable-is : {h : Header} → headIn m ≡ Usable h → byResult ids channels card h (drop 16 m) ≡ comes
+      unfolding receivedOf byHead
+      usable-is e = rw (full, size, e)
+
+-- ---- a transfer, which has no reply; v is what the table gives, s what follows the header
+module _ (card : Card) (h : Header) (s : List ℕ) where
+  pub verdict-offered : {t x v : Verdict} → x ≡ t → x ≡ v → offered card h s v ≡ offered card h s t
+  verdict-offered e g = ap (offered card h s) (sym g ∙ e)
+
+  pub offered-silent : (v : Verdict) → offered card h s v .reply ≡ []
+  unfolding offered
+  offered-silent (Refused code) = refl
+  offered-silent (Passed p) = transfer-silent card h p (allocationIn (firstOf 0x0015 (itemsOf s)))
+
+-- ---- type and Result
+module _ (ids channels : List ℕ) (card : Card) (h : Header) (s : List ℕ) where
+  abbrev table : Verdict
+  table = tableOf ids card h s
+
+  abbrev result : Outcome
+  result = byResult ids channels card h s
+
+  module _ (transfer : eqb (h .kind) 147 ≡ true) where
+    pub answer-taken : isAnswer (h .result) ≡ true → offered card h s table ≡ result
+    unfolding byResult
+    answer-taken t = rw (transfer, t)
+
+    pub answer-needed : isAnswer (h .result) ≡ false → keeps card 15 ≡ result
+    unfolding byResult
+    answer-needed t = rw (transfer, t)
+
+  module _ (other : eqb (h .kind) 147 ≡ false) where
+    pub answer-unasked : isAnswer (h .result) ≡ true → keeps card 15 ≡ result
+    unfolding byResult
+    answer-unasked t = rw (other, t)
+
+    module _ (request : isAnswer (h .result) ≡ false) where
+      pub notice-taken : isNotice h ≡ true → keeps card 0 ≡ result
+      unfolding byResult
+      notice-taken t = rw (other, request, t)
+
+      pub request-checked : isNotice h ≡ false → requested ids channels card h s table ≡ result
+      unfolding byResult
+      request-checked t = rw (other, request, t)
+
+  -- v is what the table gives
+  pub verdict-requested : {x v : Verdict} → x ≡ table → x ≡ v → requested ids channels card h s v ≡ requested ids channels card h s table
+  verdict-requested e g = ap (requested ids channels card h s) (sym g ∙ e)
+
+  -- past the table
+  module _ (p : ℕ) where
+    abbrev answer : Outcome
+    answer = byType ids channels card h s p
+
+    pub of-144 : eqb (h .kind) 144 ≡ true → controlled ids channels card h p s ≡ answer
+    unfolding byType
+    of-144 t = rw t
+
+    module _ (n₁ : eqb (h .kind) 144 ≡ false) where
+      pub of-146 : eqb (h .kind) 146 ≡ true → {r : Request} → r ≡ requestIn (firstOf 0x0016 (itemsOf s)) → reallocated ids channels card h p r ≡ answer
+      unfolding byType
+      of-146 t e = rw (n₁, t) (ap (reallocated ids channels card h p) e)
+
+      module _ (n₂ : eqb (h .kind) 146 ≡ false) where
+        pub of-148 : eqb (h .kind) 148 ≡ true → delegationQuery ids card h p ≡ answer
+        unfolding byType
+        of-148 t = rw (n₁, n₂, t)
+
+        pub of-149 : eqb (h .kind) 148 ≡ false → flowQuery ids channels card h p ≡ answer
+        unfolding byType
+        of-149 t = rw (n₁, n₂, t)

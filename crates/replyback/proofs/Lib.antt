@@ -1,0 +1,10 @@
+pub mod Composed
+pub mod Received
+pub mod Refusals
+pub mod Answers
+pub mod Totals
+pub mod Lengths
+pub mod Cases
+pub mod Passed
+pub mod Messages
+pub mod Begun

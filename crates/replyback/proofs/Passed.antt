@@ -1,0 +1,129 @@
+-- What is known of a message past the table, and of what follows there: its Target has one circuit id, a command's result code fits its
+-- field, and a port's rows are at most 16. Assumes nothing.
+use mathlib.Core.Path.{_≡_, refl, ap}
+use mathlib.Core.List.{List, [], _∷_, _++_}
+use mathlib.Core.Bool.{Bool, true, false, cond, not, _||_}
+use Prim.Native.Nat.{ℕ, suc, _+_, _≤_, _<_}
+use native.Mathlib.Nat.{pos-of-ne-zero}
+use native.Mathlib.Omega.{arith}
+use lib.ListN.{length, take, getD, length-append, length-take}
+use lib.Dec.{eqb}
+use borrow.Author.Tests.{eqb-true, eqb-false}
+use Rattle.items.specs.Items.{Item, ofType, countOf, firstOf}
+use Rattle.fields.specs.Fields.{circuitIds, lengthOk, commandIn}
+use Rattle.flows.specs.Flows.{goodFlow}
+use Rattle.flow_octets.specs.FlowOctets.{flowFormed, flowNamed}
+use Rattle.rows.specs.declared.Found.{Found}
+use Rattle.rows.specs.declared.Found.the-variants.{At, Nothing}
+use Rattle.channels.specs.Channels.{channelOf}
+use Rattle.writers.specs.Tlvs.{bareOf}
+use Rattle.writers.proofs.Tlvs.{length-tlv}
+use Rattle.pool.specs.declared.Pool.{Pool}
+use Rattle.pool.specs.Pool.{isActive, rowsOf}
+use Rattle.card.specs.declared.Card.{Card}
+use Rattle.joins.specs.Joins.{admitNumber}
+use Rattle.listing.specs.Listing.{rowBefore, placed, placedAll, inOrder, rowsInOrder}
+use Rattle.checks.specs.Named.{beside, needed, missing, fromFault}
+use Rattle.commands.specs.declared.Ran.{Ran}
+use Rattle.commands.specs.Orders.{Order, shapeOk, flowContent, flowOrder, orderOf}
+use Rattle.commands.specs.Orders.Order.{ill}
+use Rattle.commands.specs.Commands.{addNew, addRow, deleteRow, obeyed, ranOf}
+use Rattle.replyback.proofs.Cases.{by-cond}
+
+-- ---- no type is missing: a Target stands
+stands-by : (t : ℕ) (rest : List ℕ) (n : ℕ) (b : Bool) → eqb n 0 ≡ b → length (cond b (bareOf t) [] ++ rest) ≡ 0 → 0 < n
+stands-by t rest n true e z = absurd (omega (arith, length-append (bareOf t) rest, length-tlv t []))
+stands-by t rest n false e z = pos-of-ne-zero (eqb-false _ _ e)
+
+first-stands : (t : ℕ) (ts : List ℕ) (is : List Item) → length (missing (t ∷ ts) is) ≡ 0 → 0 < countOf t is
+unfolding missing
+first-stands t ts is z = stands-by t (missing ts is) (countOf t is) (eqb (countOf t is) 0) refl z
+
+pub target-stands : (kind : ℕ) (is : List Item) → length (missing (needed kind) is) ≡ 0 → 0 < countOf 0x1000 is
+target-stands kind is = first-stands 0x1000 (beside kind) is
+
+-- ---- none is at fault: the Target has one circuit id
+rest-by : (a b : Bool) (i : Item) (is ks js : List Item) {R : Type 0} → (length ks ≡ 0 → R) → (length js ≡ 0 → R)
+    → length (cond a (cond b (i ∷ is) ks) js) ≡ 0 → R
+rest-by true true i is ks js f g z = absurd (omega arith)
+rest-by true false i is ks js f g z = f z
+rest-by false b i is ks js f g z = g z
+
+one-by : (a b : Bool) (i : Item) (is ks js : List Item) (cs : List (List ℕ)) → eqb (circuitIds (i .content)) 1 ≡ b
+    → (0 < length cs → length js ≡ 0 → circuitIds (getD cs 0 []) ≡ 1)
+    → 0 < length (cond a (i .content ∷ cs) cs) → length (cond a (cond (false || not b) (i ∷ is) ks) js) ≡ 0
+    → circuitIds (getD (cond a (i .content ∷ cs) cs) 0 []) ≡ 1
+one-by true true i is ks js cs e f l z = eqb-true _ _ e
+one-by true false i is ks js cs e f l z = absurd (omega arith)
+one-by false b i is ks js cs e f l z = f l z
+
+pub one-circuit : (single : ℕ) (other : Bool) (is : List Item) → 0 < countOf 0x1000 is → length (fromFault single false other is) ≡ 0
+    → circuitIds (firstOf 0x1000 is) ≡ 1
+unfolding fromFault countOf firstOf ofType
+one-circuit single other [] l z = absurd (omega arith)
+one-circuit single other (i ∷ is) l z =
+    one-by (eqb (i .kind) 0x1000) (eqb (circuitIds (i .content)) 1) i is _ _ (ofType 0x1000 is) refl
+    (λ k. rest-by (eqb (i .kind) single) (other || not (lengthOk single (i .content))) i is _ _ (one-circuit single true is k) (one-circuit single other is k))
+    l z
+
+-- ---- the result code of a command fits its field
+abbrev Small : Ran → Type 0
+Small r = r .code < 4096
+
+module _ (channels : List ℕ) (card : Card) (p : ℕ) where
+  add-code : (accounting : ℕ) (x : Found) → addRow channels card p accounting x .code < 4096
+  unfolding addRow addNew
+  add-code accounting Nothing = omega arith
+  add-code accounting (At k) =
+      by-cond Small (isActive (card .pool) p k) _ _ (λ _. omega arith)
+      (λ _. by-cond Small (eqb (admitNumber channels card (card .«add_cac») p k) 0) _ _ (λ _. omega arith) (λ _. omega arith))
+
+  delete-code : (x : Found) → deleteRow card p x .code < 4096
+  unfolding deleteRow
+  delete-code Nothing = omega arith
+  delete-code (At k) = by-cond Small (isActive (card .pool) p k) _ _ (λ _. omega arith) (λ _. omega arith)
+
+  Fits : Order → Type 0
+  Fits o = obeyed channels card p o .code < 4096
+
+  ill-code : (code : ℕ) → code < 4096 → Fits (ill code)
+  unfolding Fits obeyed
+  ill-code code h = h
+
+  flow-code : (code accounting : ℕ) (c : List ℕ) → Fits (flowOrder code accounting c)
+  unfolding flowOrder Fits obeyed
+  flow-code code accounting c =
+      by-cond Fits (flowFormed c) _ _
+      (λ _. by-cond Fits (goodFlow (flowNamed c)) _ _
+      (λ _. by-cond Fits (eqb code 1) _ _
+      (λ _. add-code accounting (channelOf channels (card .«channel_count») (flowNamed c)))
+      (λ _. delete-code (channelOf channels (card .«channel_count») (flowNamed c))))
+      (λ _. ill-code 0x65 (omega arith)))
+      (λ _. ill-code 0x55 (omega arith))
+
+  pub code-fits : (c : List ℕ) → ranOf channels card p c .code < 4096
+  unfolding orderOf Fits obeyed
+  code-fits c =
+      by-cond Fits (shapeOk c) _ _
+      (λ _. by-cond Fits (eqb (commandIn c .code) 3) _ _ (λ _. omega arith) (λ _. flow-code (commandIn c .code) (commandIn c .accounting) (flowContent c)))
+      (λ _. ill-code 0x64 (omega arith))
+
+-- ---- a port's rows
+module _ (before : ℕ → ℕ → Bool) where
+  longer-by : (b : Bool) (k j : ℕ) (xs ys : List ℕ) (n : ℕ) → length xs ≡ n → length ys ≡ n → length (cond b (k ∷ xs) (j ∷ ys)) ≡ suc n
+  longer-by true k j xs ys n e f = ap suc e
+  longer-by false k j xs ys n e f = ap suc f
+
+  placed-length : (k : ℕ) (js : List ℕ) → length (placed before k js) ≡ suc (length js)
+  unfolding placed
+  placed-length k [] = refl
+  placed-length k (j ∷ js) = longer-by (before k j) k j (placed before j js) (placed before k js) (suc (length js)) (placed-length j js) (placed-length k js)
+
+  all-length : (done ks : List ℕ) → length (placedAll before done ks) ≡ length ks + length done
+  unfolding placedAll
+  all-length done [] = omega arith
+  all-length done (k ∷ ks) = omega (arith, all-length (placed before k done) ks, placed-length k done)
+
+pub rows-few : (channels : List ℕ) (pool : Pool) (p : ℕ) → length (rowsInOrder channels pool p) ≤ 16
+unfolding rowsInOrder inOrder
+rows-few channels pool p = omega (arith, all-length (rowBefore channels) [] (take 16 (rowsOf pool p)), length-take 16 (rowsOf pool p))

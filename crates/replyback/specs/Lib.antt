@@ -1,0 +1,4 @@
+pub mod Says
+pub mod Kinds
+pub mod Sizes
+pub mod Every
