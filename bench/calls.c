@@ -156,7 +156,22 @@ static void messages(void) {
     }
 }
 
-/* ---- stack: a painted stack of its own for one call */
+/* ---- stack: the free part of a thread's own stack is painted before a call, and looked at behind it */
+static uint8_t space[1 << 18] __attribute__((aligned(4096)));
+
+__attribute__((noinline)) static size_t paint(void) {
+    uintptr_t here = (uintptr_t)__builtin_frame_address(0), low = (uintptr_t)space;
+    size_t n = here - low - 512;
+    for (size_t i = 0; i < n; i++) ((volatile uint8_t *)space)[i] = 0xA5;
+    return n;
+}
+
+static size_t used(size_t top) {
+    size_t i = 0;
+    while (i < top && space[i] == 0xA5) i++;
+    return top - i;
+}
+
 static void *deep(void *unused) {
     static uint8_t m[4096];
     static card c;
@@ -165,24 +180,22 @@ static void *deep(void *unused) {
     c = filled(true);
     size_t n = target(m, head(m, 144, 2), 0);
     for (unsigned i = 0; i < 100; i++) n = command(m, n, i % 2 ? 1 : 2, nth(15));
-    n = command(m, n, 1, nth(200));
-    d = speed_message(c, ids, channels, m, close16(m, n), reply, sizeof reply);
+    n = close16(m, command(m, n, 1, nth(200)));
+    size_t top = paint();
+    d = speed_message(c, ids, channels, m, n, reply, sizeof reply);
+    printf("stack of a message (144, 101 commands, answer %u): %zu octets\n", d.number, used(top));
+    top = paint();
     d = speed_join(c, ids, channels, entries, 63, nth(255), reply, sizeof reply);
-    return d.number ? NULL : &d;
+    printf("stack of a join (answer %u): %zu octets; a card has %zu\n", d.number, used(top), sizeof(card));
+    return NULL;
 }
 
 static void stack(void) {
-    static uint8_t space[1 << 18] __attribute__((aligned(4096)));
     pthread_attr_t a;
     pthread_t t;
-    memset(space, 0xA5, sizeof space);
     pthread_attr_init(&a);
     pthread_attr_setstack(&a, space, sizeof space);
-    if (pthread_create(&t, &a, deep, NULL)) return;
-    pthread_join(t, NULL);
-    size_t i = 0;
-    while (i < sizeof space && space[i] == 0xA5) i++;
-    printf("stack of the deepest calls, with what a thread and this driver take: %zu octets; a card has %zu\n", sizeof space - i, sizeof(card));
+    if (!pthread_create(&t, &a, deep, NULL)) pthread_join(t, NULL);
 }
 
 int main(void) {

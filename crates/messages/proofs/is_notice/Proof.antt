@@ -1,6 +1,5 @@
 use borrow.Author.Tests.{eq-eqb, ne-eqb}
 use Rattle.messages.specs.Messages.{isNotice}
-use borrow.Author.Needs.{needs}
 use Rattle.messages.proofs.is_notice.Statement.{statement}
 use Rattle.messages.proofs.is_notice.Tie as tie
 

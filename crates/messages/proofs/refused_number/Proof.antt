@@ -1,6 +1,5 @@
 use borrow.Author.Tests.{eq-eqb, ne-eqb}
 use Rattle.messages.specs.Messages.{refusedNumber}
-use borrow.Author.Needs.{needs}
 use Rattle.messages.proofs.refused_number.Statement.{statement}
 use Rattle.messages.proofs.refused_number.Tie as tie
 

@@ -1,6 +1,5 @@
 use native.Mathlib.Omega.{arith}
 use mathlib.Core.Logic.{⊎-elim}
-use borrow.Author.Needs.{needs}
 use Rattle.transfers.proofs.reduced.Statement.{statement}
 use Rattle.transfers.proofs.reduced.Tie as tie
 
