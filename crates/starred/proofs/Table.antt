@@ -1,0 +1,56 @@
+-- The starred cases hold: both sides are computed, on whole cards. Assumes nothing.
+use mathlib.Core.Path.{refl}
+use mathlib.Core.List.{flatMap}
+use Rattle.octets.specs.Numbers.{oct8, oct16, oct24, oct32}
+use Rattle.octets.specs.Tests.{every}
+use Rattle.header.specs.Header.{sizeOk, usable, headerIn, headIn, headerOf, messageOf}
+use Rattle.tlv.specs.First.{firstTlv}
+use Rattle.tlv.specs.Fold.{foldBy, foldUpTo, foldTlvs}
+use Rattle.tlv.specs.Depth.{insideOf, entered, insideOk, allTlvs, listOk}
+use Rattle.items.specs.Items as items
+use Rattle.fields.specs.Fields.{requestIn, lengthOk}
+use Rattle.writers.specs.Tlvs.{tlvOf, targetOf, allocationOf, requestOf}
+use Rattle.replies.specs.Replies.{amountReply}
+use Rattle.flows.specs.Words.{same, zeros}
+use Rattle.flows.specs.Flows.{sameFlow, knownFamily, width, inWidth, isGroup, goodGroup, goodSource, goodFlow}
+use Rattle.rows.specs.Rows as places
+use Rattle.channels.specs.Channels.{channelAt, rateAt, channelOf}
+use Rattle.lists.specs.Prefix.{bits, bitsOf, prefixMatches}
+use Rattle.lists.specs.Lists.{entryAt, entryMatches, matching, weightOf, longest, has, decision, listDecision}
+use Rattle.circuits.specs.Circuits.{idLength, idAt, portOf}
+use Rattle.tables.specs.Tables.{idOk, channelOk, knownList, withinAddress, entryOk, tablesOk}
+use Rattle.sums.specs.Sums.{sumTo, mapTo}
+use Rattle.ports.specs.Ports.{mayAsk}
+use Rattle.pool.specs.Pool.{sumOver, freeIn, roomIn, began}
+use Rattle.card.specs.Cards.{isPort}
+use Rattle.card.specs.Start.{firstOk, startOf}
+use Rattle.card.specs.Figures.{delegationOf, committedAt}
+use Rattle.begun.specs.Begun.{reallocationOf}
+use Rattle.joins.specs.Joins.{fits, admitNumber, whiteOf, byList, joinRow, joinOf}
+use Rattle.joins.specs.Asks.{askedOf, askOf}
+use Rattle.listing.specs.Listing.{activeRow, activeAt}
+use Rattle.checks.specs.Named.{needed, missing, singleOf, fromFault}
+use Rattle.checks.specs.Table.{handled, resultOk, idIn, located, namedRows, tableOf}
+use Rattle.transfers.specs.Transfers.{reducedTo, transferFails, transferGives, reallocated}
+use Rattle.messages.specs.Messages.{isAnswer, isNotice, byType, requested, byResult, byHead, receivedOf}
+use Rattle.demand3.specs.Calls.{outcomeOf, startedOf}
+use Rattle.demand3.specs.Ledger.{tlvsIn, amountIn}
+use Rattle.starred.specs.Givens.{idRow, groupAt, channelsFrom, rates, tables, upWith, ownersFrom, channelsIn, poolOf, cardWith, many, committed3000, committed3500, crowded, flow, joins, asks, requests}
+use Rattle.starred.specs.Starred.{ofJoin, shownBy, shown, rows, Starred}
+
+pub table : Starred
+unfolding flatMap every mapTo sumTo
+    places.firstFrom places.firstOf places.allOf places.noneOf places.rowsOk
+    oct8 oct16 oct24 oct32 headerOf messageOf tlvOf targetOf allocationOf requestOf amountReply reallocationOf
+    sizeOk usable headerIn headIn firstTlv foldBy foldUpTo foldTlvs insideOf entered insideOk allTlvs listOk
+    items.itemsOf items.ofType items.countOf items.firstOf requestIn lengthOk tlvsIn amountIn
+    same zeros sameFlow knownFamily width inWidth isGroup goodGroup goodSource goodFlow channelAt rateAt channelOf
+    bits bitsOf prefixMatches entryAt entryMatches matching weightOf longest has decision listDecision idLength idAt portOf
+    idOk channelOk knownList withinAddress entryOk tablesOk firstOk startOf startedOf
+    isPort delegationOf committedAt activeRow activeAt sumOver freeIn roomIn began mayAsk
+    outcomeOf fits admitNumber whiteOf byList joinRow joinOf askedOf askOf
+    receivedOf byHead byResult isAnswer isNotice requested byType tableOf handled resultOk namedRows needed missing singleOf fromFault idIn located
+    reallocated reducedTo transferFails transferGives
+    idRow groupAt channelsFrom rates tables upWith ownersFrom channelsIn poolOf cardWith many committed3000 committed3500 crowded
+    flow joins asks requests ofJoin shownBy shown rows Starred
+table = refl
