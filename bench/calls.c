@@ -1,39 +1,40 @@
 /* Whole calls of the card: a join against a plain C version on the same arrays, messages of growing size, and how much stack a call takes.
    Build and run: bench/run */
-#include "card.h"
+#include "../include/ancp_card.h"
 #include <pthread.h>
 #include <stdio.h>
 #include <string.h>
 #include <time.h>
 
-static uint8_t ids[4096], reply[4608];
-static uint32_t channels[2816], entries[1536];
+static ancp_tables tables;
+static uint8_t *const ids = tables.ids, reply[4608];
+static uint32_t *const channels = tables.channels, *const entries = tables.entries;
 
 static double now(void) { struct timespec t; clock_gettime(CLOCK_MONOTONIC, &t); return t.tv_sec * 1e9 + t.tv_nsec; }
 
-static flow nth(unsigned k) { flow f = {1, 0, {0xE9000000u + k, 0, 0, 0}, {0, 0, 0, 0}}; return f; }
+static ancp_flow nth(unsigned k) { ancp_flow f = {1, 0, {0xE9000000u + k, 0, 0, 0}, {0, 0, 0, 0}}; return f; }
 
 /* 64 ports of one octet each, 256 channels of rate 1, 128 entries of which the last is white for all groups */
-static card fresh(bool add) {
+static ancp_card fresh(bool add) {
     for (unsigned p = 0; p < 64; p++) { ids[p * 64] = 1; ids[p * 64 + 1] = (uint8_t)(p + 1); }
     for (unsigned k = 0; k < 256; k++) { uint32_t *r = channels + k * 11; r[0] = 1; r[2] = 1; r[3] = nth(k).group[0]; }
     for (unsigned i = 0; i < 128; i++) { uint32_t *e = entries + i * 12; e[0] = 1; e[1] = 1; e[2] = i == 127 ? 4 : 32; e[4] = i == 127 ? 0xE0000000u : 0xEF000000u + i; }
-    card c = speed_start(ids, 64, channels, 256, entries, 128, true, add, 1).card;
-    for (size_t p = 0; p < 64; p++) { c = speed_up(c, p).card; c = speed_delegation(c, channels, p, 1000000).card; }
+    ancp_card c = ancp_card_started(ids, 64, channels, 256, entries, 128, true, add, 1).card;
+    for (size_t p = 0; p < 64; p++) { c = ancp_card_after_up(c, p).card; c = ancp_card_after_delegation(c, channels, p, 1000000).card; }
     return c;
 }
 
 /* 256 extras: 16 flows on 21 ports, 8 on the next, 4 on the others but the last, which has 3 */
-static card filled(bool add) {
-    card c = fresh(add);
+static ancp_card filled(bool add) {
+    ancp_card c = fresh(add);
     for (size_t p = 0; p < 64; p++)
         for (unsigned k = 0; k < (p < 21 ? 16u : p == 21 ? 8u : p == 63 ? 3u : 4u); k++)
-            c = speed_join(c, ids, channels, entries, p, nth(k), reply, sizeof reply).card;
+            c = ancp_card_after_join(c, ids, channels, entries, p, nth(k), reply, sizeof reply).card;
     return c;
 }
 
 /* the same join, plainly: on the card in place, without its reply */
-static bool same(const flow *a, const uint32_t *r) { return r[0] == a->family && r[1] == a->sourced && !memcmp(r + 3, a->group, 16) && !memcmp(r + 7, a->source, 16); }
+static bool same(const ancp_flow *a, const uint32_t *r) { return r[0] == a->family && r[1] == a->sourced && !memcmp(r + 3, a->group, 16) && !memcmp(r + 7, a->source, 16); }
 
 static int prefix(uint32_t n, const uint32_t *a, const uint32_t *b) {
     for (int w = 0; w < 4 && n; w++) {
@@ -44,7 +45,7 @@ static int prefix(uint32_t n, const uint32_t *a, const uint32_t *b) {
     return 1;
 }
 
-__attribute__((noinline)) static int plain_join(card *c, size_t p, const flow *f) {
+__attribute__((noinline)) static int plain_join(ancp_card *c, size_t p, const ancp_flow *f) {
     if (p >= c->port_count) return 7;
     if (!c->ports[p].up) return 6;
     size_t k = 0;
@@ -76,14 +77,14 @@ __attribute__((noinline)) static int plain_join(card *c, size_t p, const flow *f
 }
 
 static void joins(void) {
-    static card c, d;
+    static ancp_card c, d;
     c = filled(false);
-    flow first = nth(3), last = nth(255);
-    const flow *which[2] = {&first, &last};
+    ancp_flow first = nth(3), last = nth(255);
+    const ancp_flow *which[2] = {&first, &last};
     for (int i = 0; i < 2; i++) {
         int rounds = 20000, a = 0, b = 0;
         double t0 = now();
-        for (int r = 0; r < rounds; r++) a += speed_join(c, ids, channels, entries, 63, *which[i], reply, sizeof reply).number;
+        for (int r = 0; r < rounds; r++) a += ancp_card_after_join(c, ids, channels, entries, 63, *which[i], reply, sizeof reply).number;
         double t1 = now();
         for (int r = 0; r < rounds; r++) { d = c; b += plain_join(&d, 63, which[i]); }
         double t2 = now();
@@ -98,7 +99,7 @@ static size_t head(uint8_t *m, unsigned kind, unsigned result) { memset(m, 0, 16
 
 static size_t target(uint8_t *m, size_t n, unsigned p) { n = put16(m, n, 0x1000); n = put16(m, n, 8); n = put16(m, n, 1); n = put16(m, n, 1); m[n] = (uint8_t)(p + 1); m[n + 1] = m[n + 2] = m[n + 3] = 0; return n + 4; }
 
-static size_t command(uint8_t *m, size_t n, unsigned code, flow f) {
+static size_t command(uint8_t *m, size_t n, unsigned code, ancp_flow f) {
     n = put16(m, n, 0x11); n = put16(m, n, 16); m[n] = (uint8_t)code; m[n + 1] = m[n + 2] = m[n + 3] = 0; n += 4;
     n = put16(m, n, 0x19); n = put16(m, n, 8); m[n] = 1; m[n + 1] = 1; n = put16(m, n + 2, 0);
     n = put16(m, n, f.group[0] >> 16);
@@ -107,12 +108,12 @@ static size_t command(uint8_t *m, size_t n, unsigned code, flow f) {
 
 static size_t close16(uint8_t *m, size_t n) { put16(m, 2, (unsigned)(n - 4)); put16(m, 14, (unsigned)(n - 4)); return n; }
 
-static double measure(const char *what, const card *c, const uint8_t *m, size_t n) {
+static double measure(const char *what, const ancp_card *c, const uint8_t *m, size_t n) {
     int rounds = 4000;
     unsigned answer = 0;
     size_t length = 0;
     double t0 = now();
-    for (int r = 0; r < rounds; r++) { done d = speed_message(*c, ids, channels, m, n, reply, sizeof reply); answer = d.number; length = d.length; }
+    for (int r = 0; r < rounds; r++) { ancp_after d = ancp_card_after_message(*c, ids, channels, m, n, reply, sizeof reply); answer = d.number; length = d.length; }
     double ns = (now() - t0) / rounds;
     printf("%-50s %8.0f ns   (answer %u, reply of %zu octets)\n", what, ns, answer, length);
     return ns;
@@ -120,7 +121,7 @@ static double measure(const char *what, const card *c, const uint8_t *m, size_t 
 
 static void messages(void) {
     static uint8_t m[4096];
-    static card c;
+    static ancp_card c;
     c = filled(true);
     double ten = 0;
     for (unsigned count = 1; count <= 100; count *= 10) {
@@ -174,19 +175,19 @@ static size_t used(size_t top) {
 
 static void *deep(void *unused) {
     static uint8_t m[4096];
-    static card c;
-    static done d;
+    static ancp_card c;
+    static ancp_after d;
     (void)unused;
     c = filled(true);
     size_t n = target(m, head(m, 144, 2), 0);
     for (unsigned i = 0; i < 100; i++) n = command(m, n, i % 2 ? 1 : 2, nth(15));
     n = close16(m, command(m, n, 1, nth(200)));
     size_t top = paint();
-    d = speed_message(c, ids, channels, m, n, reply, sizeof reply);
+    d = ancp_card_after_message(c, ids, channels, m, n, reply, sizeof reply);
     printf("stack of a message (144, 101 commands, answer %u): %zu octets\n", d.number, used(top));
     top = paint();
-    d = speed_join(c, ids, channels, entries, 63, nth(255), reply, sizeof reply);
-    printf("stack of a join (answer %u): %zu octets; a card has %zu\n", d.number, used(top), sizeof(card));
+    d = ancp_card_after_join(c, ids, channels, entries, 63, nth(255), reply, sizeof reply);
+    printf("stack of a join (answer %u): %zu octets; a card has %zu\n", d.number, used(top), sizeof(ancp_card));
     return NULL;
 }
 

@@ -1,0 +1,192 @@
+/* The access node's card of ANCP multicast control (RFC 6320, RFC 7256), for a host in C or C++.
+
+   The host keeps the card and the start's tables in its own memory. Its one duty: it hands each call the card as the last call left it, lends
+   the same tables that it gave to ancp_card_start, and lets nobody else write either. Everything else that is wrong gets its number.
+
+   Across a restart: store ancp_card_next_transaction, and give a first transaction number that is not in use to the next start.
+
+   Link with libexports.a (`rt staticlib exports`), whose functions are proved; the inline functions here only copy the card in and out. */
+#ifndef ANCP_CARD_H
+#define ANCP_CARD_H
+
+#include <stdbool.h>
+#include <stddef.h>
+#include <stdint.h>
+#include <string.h>
+
+#ifdef __cplusplus
+extern "C" {
+#endif
+
+/* ---- what comes back from a call */
+enum {
+    ANCP_DONE = 0,                 /* done; reply length 0 if none is due */
+    ANCP_ACTIVE = 1,               /* flow active already */
+    ANCP_GREY = 2,                 /* grey: Admission Control message (145) written, ports and flows kept */
+    ANCP_IGNORED = 3,              /* black or matched by no entry */
+    ANCP_RATE = 4,                 /* rate does not fit */
+    ANCP_NO_ROOM = 5,              /* no record room */
+    ANCP_PORT_DOWN = 6,
+    ANCP_NO_PORT = 7,
+    ANCP_BAD_FLOW = 8,             /* bad flow address */
+    ANCP_NOT_LISTED = 9,           /* channel not listed */
+    ANCP_NOT_ACTIVE = 10,          /* flow not active */
+    ANCP_UNDER_COMMITTED = 11,     /* delegation under committed */
+    ANCP_FIGURES = 12,             /* figures wrong, or a request is open */
+    ANCP_SMALL_BUFFER = 13,        /* reply buffer under ANCP_REPLY octets */
+    ANCP_BAD_START = 14,           /* start tables, sizes or first transaction number bad */
+    ANCP_UNUSABLE = 15,            /* message unusable */
+    ANCP_NOT_ASKED = 16            /* no open request answered by this */
+};
+
+/* ---- sizes */
+enum { ANCP_PORTS = 64, ANCP_CHANNELS = 256, ANCP_ENTRIES = 128, ANCP_REPLY = 4608, ANCP_MESSAGE = 4096 };
+enum { ANCP_IPV4 = 1, ANCP_IPV6 = 2 };
+enum { ANCP_WHITE = 1, ANCP_BLACK = 2, ANCP_GREY_LIST = 3 };
+
+/* An address is four words, the highest first; IPv4 has the first, and the others zero. `sourced` is 1 where there is a source; else it is 0 and
+   the source's words are zero. */
+typedef struct { uint32_t family, sourced, group[4], source[4]; } ancp_flow;
+
+/* ---- the start's tables: fill them once, lend them with every call */
+typedef struct {
+    uint8_t ids[ANCP_PORTS * 64];            /* a row: the circuit id's length (1 to 63), then the id */
+    uint32_t channels[ANCP_CHANNELS * 11];   /* a row: family, sourced, rate (1 to 10,000,000 kbit/s), group (4), source (4) */
+    uint32_t entries[ANCP_ENTRIES * 12];     /* a row: family, list, group prefix length, source prefix length, group (4), source (4) */
+} ancp_tables;
+
+static inline void ancp_set_port(ancp_tables *t, size_t p, const void *id, uint8_t length) {
+    t->ids[p * 64] = length;
+    memcpy(t->ids + p * 64 + 1, id, length < 64 ? length : 63);
+}
+
+static inline void ancp_set_channel(ancp_tables *t, size_t k, const ancp_flow *f, uint32_t rate) {
+    uint32_t *r = t->channels + k * 11;
+    r[0] = f->family;
+    r[1] = f->sourced;
+    r[2] = rate;
+    memcpy(r + 3, f->group, 16);
+    memcpy(r + 7, f->source, 16);
+}
+
+/* prefix gives family, group and source; the lengths are in bits */
+static inline void ancp_set_entry(ancp_tables *t, size_t i, uint32_t list, const ancp_flow *prefix, uint32_t group_bits, uint32_t source_bits) {
+    uint32_t *e = t->entries + i * 12;
+    e[0] = prefix->family;
+    e[1] = list;
+    e[2] = group_bits;
+    e[3] = source_bits;
+    memcpy(e + 4, prefix->group, 16);
+    memcpy(e + 8, prefix->source, 16);
+}
+
+/* ---- the card: the host keeps it, and reads and writes nothing of it but through the functions below */
+typedef struct { bool up, asking; uint32_t delegation, required, preferred, transaction; } ancp_port;
+typedef struct { uint8_t owner[512], channel[512]; bool charged[512]; uint8_t accounting[512]; } ancp_pool;
+typedef struct { uint32_t number; } ancp_counter;
+typedef struct {
+    ancp_port ports[ANCP_PORTS];
+    ancp_pool pool;
+    ancp_counter counter;
+    size_t port_count, channel_count, entry_count;
+    bool white_cac, add_cac;
+} ancp_card;
+
+/* the channels of a port's active flows in order: the first `count` of `rows` */
+typedef struct { size_t count; uint8_t rows[16]; } ancp_rows;
+
+/* ---- the proved functions: the card in, the card out */
+typedef struct { ancp_card card; uint8_t number; size_t length; } ancp_after;
+typedef struct { ancp_card card; uint8_t number; } ancp_started;
+
+ancp_started ancp_card_started(const uint8_t *ids, size_t ports, const uint32_t *channels, size_t channel_count, const uint32_t *entries,
+                               size_t entry_count, bool white_cac, bool add_cac, uint32_t first);
+ancp_after ancp_card_after_up(ancp_card card, size_t p);
+ancp_after ancp_card_after_down(ancp_card card, size_t p);
+ancp_after ancp_card_after_delegation(ancp_card card, const uint32_t *channels, size_t p, uint32_t amount);
+ancp_after ancp_card_after_join(ancp_card card, const uint8_t *ids, const uint32_t *channels, const uint32_t *entries, size_t p, ancp_flow f,
+                                uint8_t *reply, size_t room);
+ancp_after ancp_card_after_leave(ancp_card card, const uint32_t *channels, size_t p, ancp_flow f);
+ancp_after ancp_card_after_ask(ancp_card card, const uint8_t *ids, size_t p, uint32_t required, uint32_t preferred, uint8_t *reply, size_t room);
+ancp_after ancp_card_after_message(ancp_card card, const uint8_t *ids, const uint32_t *channels, const uint8_t *octets, size_t n, uint8_t *reply,
+                                   size_t room);
+bool ancp_card_up_in(ancp_card card, size_t p);
+uint32_t ancp_card_delegation_in(ancp_card card, size_t p);
+uint64_t ancp_card_committed_in(ancp_card card, const uint32_t *channels, size_t p);
+ancp_rows ancp_card_flows_in(ancp_card card, const uint32_t *channels, size_t p);
+bool ancp_card_active_in(ancp_card card, const uint32_t *channels, size_t p, ancp_flow f);
+size_t ancp_card_extras_in(ancp_card card);
+uint32_t ancp_card_next_in(ancp_card card);
+
+/* ---- for the host: the same on its own card. Each call returns its number; `length` gets how many octets of reply are written, and beyond them
+   the buffer is kept. Numbers 1 and 3 to 16 keep card and buffer. */
+static inline uint8_t ancp_keep(ancp_card *card, const ancp_after *after, size_t *length) {
+    *card = after->card;
+    if (length) *length = after->length;
+    return after->number;
+}
+
+/* Takes the tables, or answers ANCP_BAD_START and leaves *card as it was; what *card held before is not read. */
+static inline uint8_t ancp_card_start(ancp_card *card, const ancp_tables *t, size_t ports, size_t channels, size_t entries, bool white_cac,
+                                      bool add_cac, uint32_t first) {
+    ancp_started s = ancp_card_started(t->ids, ports, t->channels, channels, t->entries, entries, white_cac, add_cac, first);
+    if (s.number == ANCP_DONE) *card = s.card;
+    return s.number;
+}
+
+/* The port is up; its flows and an open request stay if it was up already. */
+static inline uint8_t ancp_card_port_up(ancp_card *card, size_t p) {
+    ancp_after a = ancp_card_after_up(*card, p);
+    return ancp_keep(card, &a, NULL);
+}
+
+/* The port is down: its flows end and its request is closed; its delegation stays. */
+static inline uint8_t ancp_card_port_down(ancp_card *card, size_t p) {
+    ancp_after a = ancp_card_after_down(*card, p);
+    return ancp_keep(card, &a, NULL);
+}
+
+/* The port's delegation, not below what is committed; an open request is closed. */
+static inline uint8_t ancp_card_set_delegation(ancp_card *card, const ancp_tables *t, size_t p, uint32_t amount) {
+    ancp_after a = ancp_card_after_delegation(*card, t->channels, p, amount);
+    return ancp_keep(card, &a, NULL);
+}
+
+/* A white flow begins if there is room and, under White-List-CAC, its rate fits; for a grey one (ANCP_GREY) a message to the server is written. */
+static inline uint8_t ancp_card_join(ancp_card *card, const ancp_tables *t, size_t p, const ancp_flow *f, uint8_t *reply, size_t room, size_t *length) {
+    ancp_after a = ancp_card_after_join(*card, t->ids, t->channels, t->entries, p, *f, reply, room);
+    return ancp_keep(card, &a, length);
+}
+
+/* The flow ends, whoever began it. */
+static inline uint8_t ancp_card_leave(ancp_card *card, const ancp_tables *t, size_t p, const ancp_flow *f) {
+    ancp_after a = ancp_card_after_leave(*card, t->channels, p, *f);
+    return ancp_keep(card, &a, NULL);
+}
+
+/* Writes a request for bandwidth (146) to the server, which is then open. */
+static inline uint8_t ancp_card_ask(ancp_card *card, const ancp_tables *t, size_t p, uint32_t required, uint32_t preferred, uint8_t *reply, size_t room,
+                                    size_t *length) {
+    ancp_after a = ancp_card_after_ask(*card, t->ids, p, required, preferred, reply, room);
+    return ancp_keep(card, &a, length);
+}
+
+/* A message from the server is carried out, and its answer, if one is due, is written. */
+static inline uint8_t ancp_card_message(ancp_card *card, const ancp_tables *t, const uint8_t *octets, size_t n, uint8_t *reply, size_t room, size_t *length) {
+    ancp_after a = ancp_card_after_message(*card, t->ids, t->channels, octets, n, reply, room);
+    return ancp_keep(card, &a, length);
+}
+
+/* What a host may read. Of a number that is no port's: down, 0, no flows. */
+static inline bool ancp_card_is_up(const ancp_card *card, size_t p) { return ancp_card_up_in(*card, p); }
+static inline uint32_t ancp_card_delegation(const ancp_card *card, size_t p) { return ancp_card_delegation_in(*card, p); }
+static inline uint64_t ancp_card_committed(const ancp_card *card, const ancp_tables *t, size_t p) { return ancp_card_committed_in(*card, t->channels, p); }
+static inline ancp_rows ancp_card_flows(const ancp_card *card, const ancp_tables *t, size_t p) { return ancp_card_flows_in(*card, t->channels, p); }
+static inline bool ancp_card_is_active(const ancp_card *card, const ancp_tables *t, size_t p, const ancp_flow *f) { return ancp_card_active_in(*card, t->channels, p, *f); }
+static inline size_t ancp_card_extras(const ancp_card *card) { return ancp_card_extras_in(*card); }
+static inline uint32_t ancp_card_next_transaction(const ancp_card *card) { return ancp_card_next_in(*card); }
+
+#ifdef __cplusplus
+}
+#endif
+#endif
