@@ -172,29 +172,31 @@ fn from_fault<'a>(tlvs: &'a [u8], single: u16) -> &'a [u8]
 {
     let mut target = false;
     let mut other = false;
-    let mut t = tlvs;
+    let mut at: usize = 0;
     loop {
-        let next = tlv::first_tlv(t);
+        let step = reader::step_at(tlvs, at);
+        let next = step.first;
         match next {
-            First::End => return t,
-            First::Broken => return t,
-            First::Tlv { kind, len, size } => {
-                let e = 4 + len;
+            First::End => return &tlvs[at..],
+            First::Broken => return &tlvs[at..],
+            First::Tlv { kind, len, size: _ } => {
+                let b = at + 4;
+                let e = b + len;
                 if kind == TARGET {
-                    if target || fields::circuit_ids(&t[4..e]) != 1 {
-                        return t;
+                    if target || fields::circuit_ids(&tlvs[b..e]) != 1 {
+                        return &tlvs[at..];
                     }
                     target = true;
-                    t = &t[size..];
+                    at = step.next;
                     continue;
                 }
                 if kind == single {
-                    if other || !fields::length_ok(single, &t[4..e]) {
-                        return t;
+                    if other || !fields::length_ok(single, &tlvs[b..e]) {
+                        return &tlvs[at..];
                     }
                     other = true;
                 }
-                t = &t[size..];
+                at = step.next;
             }
         }
     }

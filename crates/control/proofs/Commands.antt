@@ -1,7 +1,7 @@
 -- The commands of a 144.
 --     from-none, from-next, from-fail    no command is left, the next one succeeds, the next one fails
 --     all-written, all-silent            all good, for Result 2 and for any other
---     commands-end, .. commands-hit      the Commands at top level, by what stands first
+--     commands-end, .. commands-hit      the Commands from a place on, by what a step read there
 --     controlled-by                      all of them, with the port's circuit id
 -- Assumes nothing.
 use mathlib.Core.Path.{_≡_, refl, sym, ap, _∙_}
@@ -13,12 +13,12 @@ use lib.Dec.{eqb}
 use borrow.Author.Tests.{eq-eqb, ne-eqb}
 use Rattle.octets.proofs.Tests.{taken, left}
 use Rattle.header.specs.declared.Header.{Header}
-use Rattle.tlv.specs.declared.First.{First}
 use Rattle.tlv.specs.declared.First.the-variants.{End, Broken, Tlv}
-use Rattle.tlv.specs.First.{firstTlv}
 use Rattle.items.specs.Items.{item, itemsOf, ofType}
-use Rattle.items.proofs.Items.{items-end, items-broken, items-tlv}
 use Rattle.items.proofs.Types.{of-hit, of-miss}
+use Rattle.reader.specs.declared.Step.{Step}
+use Rattle.reader.specs.Reader.{stepAt}
+use Rattle.reader.proofs.Steps.{step-end, step-broken, step-tlv}
 use Rattle.replies.specs.Replies.{successOf}
 use Rattle.circuits.specs.Circuits.{idAt}
 use Rattle.card.specs.declared.Card.{Card}
@@ -59,22 +59,22 @@ module _ (h : Header) (card : Card) where
   unfolding allGood
   all-silent e = left (eqb (h .result) 2) (writes card (successOf h)) (becomes card) (ne-eqb (h .result) 2 e)
 
--- x is what `first_tlv` gave of s
-module _ (s : List ℕ) {x : First} (e : x ≡ firstTlv s) where
-  pub commands-end : x ≡ End → commandsIn s ≡ []
+-- x is what `step_at` gave of s at a place
+module _ (s : List ℕ) (at : ℕ) {x : Step} (e : x ≡ stepAt s at) where
+  pub commands-end : x .first ≡ End → commandsIn (drop at s) ≡ []
   unfolding ofType
-  commands-end g = ap (ofType 0x0011) (items-end s e g)
+  commands-end g = ap (ofType 0x0011) (step-end s at e g)
 
-  pub commands-broken : x ≡ Broken → commandsIn s ≡ []
+  pub commands-broken : x .first ≡ Broken → commandsIn (drop at s) ≡ []
   unfolding ofType
-  commands-broken g = ap (ofType 0x0011) (items-broken s e g)
+  commands-broken g = ap (ofType 0x0011) (step-broken s at e g)
 
-  module _ {t n m : ℕ} (g : x ≡ Tlv t n m) where
-    pub commands-miss : (t ≡ 0x0011 → ⊥) → commandsIn s ≡ commandsIn (drop m s)
-    commands-miss k = ap (ofType 0x0011) (items-tlv s e g) ∙ of-miss (item t (take n (drop 4 s))) (itemsOf (drop m s)) k
+  module _ {t n m : ℕ} (g : x .first ≡ Tlv t n m) where
+    pub commands-miss : (t ≡ 0x0011 → ⊥) → commandsIn (drop at s) ≡ commandsIn (drop (x .next) s)
+    commands-miss k = ap (ofType 0x0011) (step-tlv s at e g) ∙ of-miss (item t (take n (drop (at + 4) s))) (itemsOf (drop (x .next) s)) k
 
-    pub commands-hit : t ≡ 0x0011 → commandsIn s ≡ take n (drop 4 s) ∷ commandsIn (drop m s)
-    commands-hit k = ap (ofType 0x0011) (items-tlv s e g) ∙ of-hit (item t (take n (drop 4 s))) (itemsOf (drop m s)) k
+    pub commands-hit : t ≡ 0x0011 → commandsIn (drop at s) ≡ take n (drop (at + 4) s) ∷ commandsIn (drop (x .next) s)
+    commands-hit k = ap (ofType 0x0011) (step-tlv s at e g) ∙ of-hit (item t (take n (drop (at + 4) s))) (itemsOf (drop (x .next) s)) k
 
 pub controlled-by : (ids channels : List ℕ) (card : Card) (h : Header) (p : ℕ) (s : List ℕ) {id : List ℕ} → id ≡ idAt ids p
     → commandsFrom channels h id p card 1 (commandsIn s) ≡ controlled ids channels card h p s

@@ -42,26 +42,28 @@ fn run_commands(
 {
     let mut c = card;
     let mut seq: u32 = 1;
-    let mut t = tlvs;
+    let mut at: usize = 0;
     loop {
-        let next = tlv::first_tlv(t);
+        let step = reader::step_at(tlvs, at);
+        let next = step.first;
         match next {
             First::End => return finish(c, h, reply),
             First::Broken => return finish(c, h, reply),
-            First::Tlv { kind, len, size } => {
+            First::Tlv { kind, len, size: _ } => {
                 if kind != COMMAND {
-                    t = &t[size..];
+                    at = step.next;
                     continue;
                 }
-                let e = 4 + len;
-                let ran = commands::run_command(c, channels, p, &t[4..e]);
+                let b = at + 4;
+                let e = b + len;
+                let ran = commands::run_command(c, channels, p, &tlvs[b..e]);
                 if ran.code != 0 {
-                    let n = put_failure(reply, h, ran.code, id, seq, &t[4..e]);
+                    let n = put_failure(reply, h, ran.code, id, seq, &tlvs[b..e]);
                     return card::written(c, n);
                 }
                 c = ran.card;
                 seq += 1;
-                t = &t[size..];
+                at = step.next;
             }
         }
     }

@@ -1,12 +1,11 @@
 use mathlib.Core.Path.{_≡_, refl, sym, ap, _∙_}
 use mathlib.Core.List.{List, _∷_}
-use Prim.Native.Nat.{ℕ, _+_, _≤_}
+use Prim.Native.Nat.{ℕ, _+_, _-_, _≤_}
 use native.Mathlib.Omega.{arith}
 use native.Mathlib.Nat.{add-sub-cancel-left}
-use lib.ListN.{length, take, drop, length-take, length-drop}
+use lib.ListN.{length, take, drop, length-take}
 use Rattle.octets.specs.Numbers.{padded}
-use Rattle.octets.proofs.Parts.{rest-part}
-use Rattle.tlv.proofs.Firsts.{tlv-fits}
+use Rattle.reader.proofs.Steps.{step-fits}
 use Rattle.card.specs.Outcome.{Outcome}
 use Rattle.card.proofs.Ends.{ends-as}
 use Rattle.control.specs.Control.{commandsFrom, commandsIn}
@@ -17,55 +16,48 @@ use Rattle.control.proofs.run_commands.Statement.{statement}
 use Rattle.control.proofs.run_commands.Tie as tie
 
 abbrev Inv-loop : tie.InvT-loop
-Inv-loop channels h id p tlvs reply₀ c₀ seq₀ t₀ reply c seq t = (seq + length t ≤ 1 + length tlvs) × (reply ≡ reply₀) × (commandsFrom channels h id p c₀ 1 (commandsIn tlvs) ≡ commandsFrom channels h id p c seq (commandsIn t))
+Inv-loop channels h id p tlvs reply₀ c₀ seq₀ at₀ reply c seq at = (at ≤ length tlvs) × (seq ≤ 1 + at) × (reply ≡ reply₀) × (commandsFrom channels h id p c₀ 1 (commandsIn tlvs) ≡ commandsFrom channels h id p c seq (commandsIn (drop at tlvs)))
 
 abbrev μ-loop : tie.MeasureT-loop
-μ-loop channels h id p tlvs reply₀ c₀ seq₀ t₀ reply c seq t = length t
+μ-loop channels h id p tlvs reply₀ c₀ seq₀ at₀ reply c seq at = length tlvs - at
 
 -- what the commands left in the message come to
 abbrev run : (c : tie.At-loop Inv-loop μ-loop) → List (List ℕ) → Outcome
 run c cs = let a = c .before .before .before .before .args in commandsFrom (a .channels .now) (a .h) (a .id .now) (a .p) (c .loop .c) (c .loop .seq) cs
 
--- past the match: the TLV lies in what is left
+-- past the match: the TLV lies in the message, and the next place behind it
 fit : (c : tie.After-known-told Inv-loop μ-loop)
-    → (c .before .next .given .0 .1 .1 .0 ≡ 4 + padded (c .before .next .given .0 .1 .0)) × (c .before .next .given .0 .1 .1 .0 ≤ length (c .before .before .before .before .loop .t .now))
-fit c = tlv-fits _ (c .before .before .before .first-tlv .ensures) (c .before .next .given .1)
+    → (c .before .before .before .before .loop .at + 4 + padded (c .before .next .given .0 .1 .0) ≡ c .before .before .before .step-at .result .next) × (c .before .before .before .step-at .result .next ≤ length (c .before .before .before .before .before .before .before .before .args .tlvs .now))
+fit c = step-fits _ _ (c .before .before .before .step-at .ensures) (c .before .next .given .1)
 
--- past the branch: a Command stands first
+-- past the branch: a Command stands there
 hit : (c : tie.Else1 Inv-loop μ-loop)
-    → commandsIn (c .before .before .before .before .before .loop .t .now) ≡ take (c .before .before .next .given .0 .1 .0) (drop 4 (c .before .before .before .before .before .loop .t .now)) ∷ commandsIn (drop (c .before .before .next .given .0 .1 .1 .0) (c .before .before .before .before .before .loop .t .now))
-hit c = commands-hit _ (c .before .before .before .before .first-tlv .ensures) (c .before .before .next .given .1) (c .if1 .left)
+    → commandsIn (drop (c .before .before .before .before .before .loop .at) (c .before .before .before .before .before .before .before .before .before .args .tlvs .now)) ≡ take (c .before .before .next .given .0 .1 .0) (drop (c .before .before .before .before .before .loop .at + 4) (c .before .before .before .before .before .before .before .before .before .args .tlvs .now)) ∷ commandsIn (drop (c .before .before .before .before .step-at .result .next) (c .before .before .before .before .before .before .before .before .before .args .tlvs .now))
+hit c = commands-hit _ _ (c .before .before .before .before .step-at .ensures) (c .before .before .next .given .1) (c .if1 .left)
 
 loop-holds : tie.Need-loop-holds Inv-loop μ-loop
-loop-holds c = (omega arith, refl, refl)
+loop-holds c = (omega arith, omega arith, refl, refl)
 
 finish-requires : tie.Need-finish-requires Inv-loop μ-loop
-finish-requires c κs = omega (arith, ap length (c .before .before .before .before .loop .inv .1), c .before .before .before .before .before .before .before .before .pre)
+finish-requires c κs = omega (arith, ap length (c .before .before .before .before .loop .inv .2), c .before .before .before .before .before .before .before .before .pre)
 
 returns : tie.Need-returns Inv-loop μ-loop
-returns c = ends-as (ends-from (c .before .before .before .before .before .before .before .loop .inv .1) (c .before .before .finish .ensures)) (sym (c .before .before .before .before .before .before .before .loop .inv .2 ∙ ap (run (c .before .before .before .before .before .before .before)) (commands-end _ (c .before .before .before .before .before .before .first-tlv .ensures) (c .before .before .before .before .enum-told .given .1)) ∙ from-none _ _ _ _ _ _))
+returns c = ends-as (ends-from (c .before .before .before .before .before .before .before .loop .inv .2) (c .before .before .finish .ensures)) (sym (c .before .before .before .before .before .before .before .loop .inv .3 ∙ ap (run (c .before .before .before .before .before .before .before)) (commands-end _ _ (c .before .before .before .before .before .before .step-at .ensures) (c .before .before .before .before .enum-told .given .1)) ∙ from-none _ _ _ _ _ _))
 
 finish-requires-2 : tie.Need-finish-requires-2 Inv-loop μ-loop
-finish-requires-2 c κs = omega (arith, ap length (c .before .before .before .before .loop .inv .1), c .before .before .before .before .before .before .before .before .pre)
+finish-requires-2 c κs = omega (arith, ap length (c .before .before .before .before .loop .inv .2), c .before .before .before .before .before .before .before .before .pre)
 
 returns-2 : tie.Need-returns-2 Inv-loop μ-loop
-returns-2 c = ends-as (ends-from (c .before .before .before .before .before .before .before .loop .inv .1) (c .before .before .finish2 .ensures)) (sym (c .before .before .before .before .before .before .before .loop .inv .2 ∙ ap (run (c .before .before .before .before .before .before .before)) (commands-broken _ (c .before .before .before .before .before .before .first-tlv .ensures) (c .before .before .before .before .enum-told2 .given .1)) ∙ from-none _ _ _ _ _ _))
-
-sub-t : tie.Need-sub-t Inv-loop μ-loop
-sub-t c = fit (c .before) .1
-
-part-t-start : tie.Need-part-t-start Inv-loop μ-loop
-part-t-start c = fit (c .before) .1
+returns-2 c = ends-as (ends-from (c .before .before .before .before .before .before .before .loop .inv .2) (c .before .before .finish2 .ensures)) (sym (c .before .before .before .before .before .before .before .loop .inv .3 ∙ ap (run (c .before .before .before .before .before .before .before)) (commands-broken _ _ (c .before .before .before .before .before .before .step-at .ensures) (c .before .before .before .before .enum-told2 .given .1)) ∙ from-none _ _ _ _ _ _))
 
 loop-less : tie.Need-loop-less Inv-loop μ-loop
-loop-less c = rw rest-part (simp length-drop (omega (arith, fit (c .before .before))))
+loop-less c = omega (arith, fit (c .before))
 
 loop-again : tie.Need-loop-again Inv-loop μ-loop
-loop-again c = rw rest-part (
-  simp length-drop (omega (arith, fit (c .before .before), c .before .before .before .before .before .before .loop .inv .0)),
-  c .before .before .before .before .before .before .loop .inv .1,
-  c .before .before .before .before .before .before .loop .inv .2 ∙ ap (run (c .before .before .before .before .before .before)) (commands-miss _ (c .before .before .before .before .before .first-tlv .ensures) (c .before .before .before .next .given .1) (c .before .if1 .taken)),
-)
+loop-again c = (fit (c .before) .1, omega (arith, fit (c .before), c .before .before .before .before .before .loop .inv .1), c .before .before .before .before .before .loop .inv .2, c .before .before .before .before .before .loop .inv .3 ∙ ap (run (c .before .before .before .before .before)) (commands-miss _ _ (c .before .before .before .before .step-at .ensures) (c .before .before .next .given .1) (c .if1 .taken)))
+
+add-b : tie.Need-add-b Inv-loop μ-loop
+add-b c = omega (arith, fit (c .before))
 
 add-e : tie.Need-add-e Inv-loop μ-loop
 add-e c = omega (arith, fit (c .before))
@@ -80,32 +72,22 @@ part-put-failure-end : tie.Need-part-put-failure-end Inv-loop μ-loop
 part-put-failure-end c = omega (arith, fit (c .before .before .before .before .before .before))
 
 put-failure-requires : tie.Need-put-failure-requires Inv-loop μ-loop
-put-failure-requires c κs = (omega (arith, ap length (c .before .before .before .before .before .before .before .before .before .before .before .loop .inv .1), c .before .before .before .before .before .before .before .before .before .before .before .before .before .before .before .pre), omega (arith, c .before .before .before .before .before .before .before .before .before .before .before .before .before .before .before .pre), rw add-sub-cancel-left (simp length-take (omega (arith, fit (c .before .before .before .before .before .before .before), c .before .before .before .before .before .before .before .before .before .before .before .loop .inv .0, c .before .before .before .before .before .before .before .before .before .before .before .before .before .before .before .pre))))
+put-failure-requires c κs = (omega (arith, ap length (c .before .before .before .before .before .before .before .before .before .before .before .loop .inv .2), c .before .before .before .before .before .before .before .before .before .before .before .before .before .before .before .pre), omega (arith, c .before .before .before .before .before .before .before .before .before .before .before .before .before .before .before .pre), rw add-sub-cancel-left (simp length-take (omega (arith, fit (c .before .before .before .before .before .before .before), c .before .before .before .before .before .before .before .before .before .before .before .before .before .before .before .pre))))
 
 same-length-3 : tie.Need-same-length-3 Inv-loop μ-loop
-same-length-3 c = omega (arith, c .before .before .before .put-failure .kept, ap length (c .before .before .before .before .before .before .before .before .before .before .before .before .before .before .before .loop .inv .1))
+same-length-3 c = omega (arith, c .before .before .before .put-failure .kept, ap length (c .before .before .before .before .before .before .before .before .before .before .before .before .before .before .before .loop .inv .2))
 
 returns-3 : tie.Need-returns-3 Inv-loop μ-loop
-returns-3 c = ends-from (c .before .before .before .before .before .before .before .before .before .before .before .before .before .before .before .loop .inv .1) (ends-written (c .before .before .before .before .before .before .before .before .before .before .before .before .before .before .before .loop .c) (rw add-sub-cancel-left at (c .before .before .before .put-failure .ensures)) (c .written .ensures) (sym (c .before .before .before .before .before .before .before .before .before .before .before .before .before .before .before .loop .inv .2 ∙ ap (run (c .before .before .before .before .before .before .before .before .before .before .before .before .before .before .before)) (hit (c .before .before .before .before .before .before .before .before .before .before)) ∙ from-fail _ _ _ _ _ _ _ _ (rw add-sub-cancel-left at (c .before .before .before .before .before .before .before .before .run-command .ensures)) (c .before .before .before .before .before .before .if2 .taken))))
+returns-3 c = ends-from (c .before .before .before .before .before .before .before .before .before .before .before .before .before .before .before .loop .inv .2) (ends-written (c .before .before .before .before .before .before .before .before .before .before .before .before .before .before .before .loop .c) (rw add-sub-cancel-left at (c .before .before .before .put-failure .ensures)) (c .written .ensures) (sym (c .before .before .before .before .before .before .before .before .before .before .before .before .before .before .before .loop .inv .3 ∙ ap (run (c .before .before .before .before .before .before .before .before .before .before .before .before .before .before .before)) (hit (c .before .before .before .before .before .before .before .before .before .before)) ∙ from-fail _ _ _ _ _ _ _ _ (rw add-sub-cancel-left at (c .before .before .before .before .before .before .before .before .run-command .ensures)) (c .before .before .before .before .before .before .if2 .taken))))
 
 add-seq : tie.Need-add-seq Inv-loop μ-loop
-add-seq c = omega (arith, fit (c .before .before .before .before .before .before), c .before .before .before .before .before .before .before .before .before .before .loop .inv .0, c .before .before .before .before .before .before .before .before .before .before .before .before .before .before .pre)
-
-sub-t-2 : tie.Need-sub-t-2 Inv-loop μ-loop
-sub-t-2 c = fit (c .before .before .before .before .before .before) .1
-
-part-t-start-2 : tie.Need-part-t-start-2 Inv-loop μ-loop
-part-t-start-2 c = fit (c .before .before .before .before .before .before) .1
+add-seq c = omega (arith, fit (c .before .before .before .before .before .before), c .before .before .before .before .before .before .before .before .before .before .loop .inv .0, c .before .before .before .before .before .before .before .before .before .before .loop .inv .1, c .before .before .before .before .before .before .before .before .before .before .before .before .before .before .pre)
 
 loop-less-2 : tie.Need-loop-less-2 Inv-loop μ-loop
-loop-less-2 c = rw rest-part (simp length-drop (omega (arith, fit (c .before .before .before .before .before .before .before))))
+loop-less-2 c = omega (arith, fit (c .before .before .before .before .before .before))
 
 loop-again-2 : tie.Need-loop-again-2 Inv-loop μ-loop
-loop-again-2 c = rw rest-part (
-  simp length-drop (omega (arith, fit (c .before .before .before .before .before .before .before), c .before .before .before .before .before .before .before .before .before .before .before .loop .inv .0)),
-  c .before .before .before .before .before .before .before .before .before .before .before .loop .inv .1,
-  c .before .before .before .before .before .before .before .before .before .before .before .loop .inv .2 ∙ ap (run (c .before .before .before .before .before .before .before .before .before .before .before)) (hit (c .before .before .before .before .before .before)) ∙ from-next _ _ _ _ _ _ _ _ (rw add-sub-cancel-left at (c .before .before .before .before .run-command .ensures)) (c .before .before .if2 .left),
-)
+loop-again-2 c = (fit (c .before .before .before .before .before .before) .1, omega (arith, fit (c .before .before .before .before .before .before), c .before .before .before .before .before .before .before .before .before .before .loop .inv .1), c .before .before .before .before .before .before .before .before .before .before .loop .inv .2, c .before .before .before .before .before .before .before .before .before .before .loop .inv .3 ∙ ap (run (c .before .before .before .before .before .before .before .before .before .before)) (hit (c .before .before .before .before .before)) ∙ from-next _ _ _ _ _ _ _ _ (rw add-sub-cancel-left at (c .before .before .before .run-command .ensures)) (c .before .if2 .left))
 
 pub run-commands-spec : {M : Type 1} → statement M
 run-commands-spec =
@@ -124,11 +106,9 @@ run-commands-spec =
     (λ c. search needs)
     returns-2
     (λ c. search needs)
-    sub-t
-    part-t-start
-    (λ c. search needs)
     loop-less
     loop-again
+    add-b
     add-e
     (λ c. search needs)
     (λ c. search needs)
@@ -142,8 +122,5 @@ run-commands-spec =
     same-length-3
     returns-3
     add-seq
-    sub-t-2
-    part-t-start-2
-    (λ c. search needs)
     loop-less-2
     loop-again-2)
