@@ -1,18 +1,33 @@
 -- The cases of the calls that turn on what a port's record says. Assumes nothing.
 use mathlib.Core.Path.{_≡_, _∙_}
-use mathlib.Core.Bool.{Bool, true, false, cond}
+use mathlib.Core.Bool.{true, false, cond}
 use mathlib.Core.List.{List}
 use Prim.Native.Nat.{ℕ}
 use Rattle.octets.proofs.Tests.{taken, left}
 use Rattle.flows.specs.declared.Flow.{Flow}
 use Rattle.flows.specs.Flows.{goodFlow}
 use Rattle.channels.specs.Channels.{channelOf}
+use Rattle.ports.specs.declared.Port.{Port}
 use Rattle.ports.specs.Ports.{takenDown}
 use Rattle.pool.specs.Pool.{endedAll}
 use Rattle.card.specs.declared.Card.{Card}
 use Rattle.card.specs.Cards.{hasPort, portAt, withPort, withPool}
 use Rattle.card.specs.Outcome.{Outcome, keeps, becomes}
 use Rattle.card.specs.Calls.{portDownOf, leaveRow, leaveOf}
+
+-- the card with another table of ports
+abbrev pub withTable : Card → List Port → Card
+withTable card table =
+    record {
+      ports = table;
+      pool = card .pool;
+      counter = card .counter;
+      «port_count» = card .«port_count»;
+      «channel_count» = card .«channel_count»;
+      «entry_count» = card .«entry_count»;
+      «white_cac» = card .«white_cac»;
+      «add_cac» = card .«add_cac»;
+    }
 
 module _ (card : Card) (p : ℕ) (here : hasPort card p ≡ true) where
   abbrev down : Outcome

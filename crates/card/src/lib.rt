@@ -157,8 +157,9 @@ pub fn port_up(card: Card, p: usize) -> Done
         return kept(card, 7);
     }
     let mut c = card;
-    let x = c.ports[p];
-    c.ports[p] = x.bring_up();
+    let table = c.ports;
+    let changed = ports::up_in(table, p);
+    c.ports = changed;
     kept(c, 0)
 }
 
@@ -173,8 +174,10 @@ pub fn port_down(card: Card, p: usize) -> Done
     if !x.up {
         return kept(c, 0);
     }
+    let table = c.ports;
+    let changed = ports::down_in(table, p);
+    c.ports = changed;
     let pool = c.pool;
-    c.ports[p] = x.take_down();
     c.pool = pool.end_all(p as u8);
     kept(c, 0)
 }
@@ -190,8 +193,9 @@ pub fn set_delegation(card: Card, channels: &[u32; 2816], p: usize, amount: u32)
     if (amount as u64) < committed_in(channels, pool, p as u8) {
         return kept(c, 11);
     }
-    let x = c.ports[p];
-    c.ports[p] = x.delegate(amount);
+    let table = c.ports;
+    let changed = ports::set_delegation_in(table, p, amount);
+    c.ports = changed;
     kept(c, 0)
 }
 

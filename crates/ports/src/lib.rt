@@ -1,5 +1,7 @@
 // One port's record, and the transaction counter.
 ghost use mathlib.Core.Path.{_≡_};
+ghost use Prim.Native.Nat.{_<_};
+ghost use lib.ListN.{set, getD};
 ghost use Rattle.ports.specs.Ports.{freshPort, closed, broughtUp, takenDown, delegated, asked, mayAsk, answers, within};
 ghost use Rattle.ports.specs.Transactions.{takenFrom};
 
@@ -26,40 +28,6 @@ impl Port {
             preferred: 0,
             transaction: 0,
         }
-    }
-
-    pub fn close(mut self) -> Port
-        ensures { λ r. ⌜ r ≡ closed self ⌝ }
-    {
-        self.asking = false;
-        self.required = 0;
-        self.preferred = 0;
-        self.transaction = 0;
-        self
-    }
-
-    pub fn bring_up(mut self) -> Port
-        ensures { λ r. ⌜ r ≡ broughtUp self ⌝ }
-    {
-        self.up = true;
-        self
-    }
-
-    pub fn take_down(mut self) -> Port
-        ensures { λ r. ⌜ r ≡ takenDown self ⌝ }
-    {
-        if self.up {
-            self.up = false;
-            return self.close();
-        }
-        self
-    }
-
-    pub fn delegate(mut self, amount: u32) -> Port
-        ensures { λ r. ⌜ r ≡ delegated self amount ⌝ }
-    {
-        self.delegation = amount;
-        self.close()
     }
 
     pub fn ask(mut self, required: u32, preferred: u32, transaction: u32) -> Port
@@ -101,6 +69,83 @@ impl Port {
         }
         amount <= self.preferred
     }
+}
+
+// ---- one port's record, updated where it is stored
+
+pub fn up(x: &mut Port)
+    ensures { λ _. ⌜ now (x .exit) ≡ broughtUp (now (x .entry)) ⌝ }
+{
+    x.up = true;
+}
+
+pub fn down(x: &mut Port)
+    ensures { λ _. ⌜ now (x .exit) ≡ takenDown (now (x .entry)) ⌝ }
+{
+    if x.up {
+        x.asking = false;
+        x.required = 0;
+        x.preferred = 0;
+        x.transaction = 0;
+        x.up = false;
+    }
+}
+
+pub fn set_delegation(x: &mut Port, amount: u32)
+    ensures { λ _. ⌜ now (x .exit) ≡ delegated (now (x .entry)) amount ⌝ }
+{
+    x.delegation = amount;
+    x.asking = false;
+    x.required = 0;
+    x.preferred = 0;
+    x.transaction = 0;
+}
+
+pub fn close(x: &mut Port)
+    ensures { λ _. ⌜ now (x .exit) ≡ closed (now (x .entry)) ⌝ }
+{
+    x.asking = false;
+    x.required = 0;
+    x.preferred = 0;
+    x.transaction = 0;
+}
+
+// ---- the same of port p of the table, lent where it stands: no other port's record changes
+
+pub fn up_in(ports: [Port; 64], p: usize) -> [Port; 64]
+    requires { ⌜ p < 64 ⌝ }
+    ensures { λ r. ⌜ r ≡ set ports p (broughtUp (getD ports p freshPort)) ⌝ }
+{
+    let mut table = ports;
+    up(&mut table[p]);
+    table
+}
+
+pub fn down_in(ports: [Port; 64], p: usize) -> [Port; 64]
+    requires { ⌜ p < 64 ⌝ }
+    ensures { λ r. ⌜ r ≡ set ports p (takenDown (getD ports p freshPort)) ⌝ }
+{
+    let mut table = ports;
+    down(&mut table[p]);
+    table
+}
+
+pub fn set_delegation_in(ports: [Port; 64], p: usize, amount: u32) -> [Port; 64]
+    requires { ⌜ p < 64 ⌝ }
+    ensures { λ r. ⌜ r ≡ set ports p (delegated (getD ports p freshPort) amount) ⌝ }
+{
+    let mut table = ports;
+    set_delegation(&mut table[p], amount);
+    table
+}
+
+pub fn close_in(ports: [Port; 64], p: usize) -> [Port; 64]
+    requires { ⌜ p < 64 ⌝ }
+    ensures { λ r. ⌜ r ≡ set ports p (closed (getD ports p freshPort)) ⌝ }
+{
+    let mut table = ports;
+    close(&mut table[p]);
+    table
 }
 
 #[repr(C)]

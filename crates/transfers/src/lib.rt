@@ -75,8 +75,9 @@ fn give(card: Card, ids: &[u8; 4096], h: Header, p: u8, amount: u32, reply: &mut
     ensures { λ d. ⌜ Ends (transferGives (now (ids .entry)) card h p amount) d (now (reply .entry)) (now (reply .exit)) ⌝ }
 {
     let mut c = card;
-    let x = c.ports[p as usize];
-    c.ports[p as usize] = x.delegate(amount);
+    let table = c.ports;
+    let changed = ports::set_delegation_in(table, p as usize, amount);
+    c.ports = changed;
     let n = replies::put_amount(reply, h, 147, 3, 0, circuits::id_at(ids, p), amount);
     card::written(c, n)
 }
@@ -91,12 +92,16 @@ pub fn transfer(card: Card, h: Header, p: u8, amount: u32) -> Done
         return card::kept(c, 16);
     }
     if h.result == 4 {
-        c.ports[p as usize] = x.close();
+        let table = c.ports;
+        let changed = ports::close_in(table, p as usize);
+        c.ports = changed;
         return card::kept(c, 0);
     }
     if !x.within(amount) {
         return card::kept(c, 16);
     }
-    c.ports[p as usize] = x.delegate(amount);
+    let table = c.ports;
+    let changed = ports::set_delegation_in(table, p as usize, amount);
+    c.ports = changed;
     card::kept(c, 0)
 }

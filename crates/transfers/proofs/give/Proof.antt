@@ -8,6 +8,7 @@ use Rattle.replies.specs.Replies.{amountReply}
 use Rattle.ports.specs.declared.Port.{Port}
 use Rattle.ports.specs.Ports.{delegated}
 use Rattle.card.specs.Cards.{portAt, withPort}
+use Rattle.card.proofs.Cases.{withTable}
 use Rattle.card.proofs.Ends.{made, ends-writes}
 use Rattle.transfers.specs.Transfers.{transferGives}
 use borrow.Author.Needs.{needs}
@@ -19,17 +20,13 @@ put-amount-requires c κs = (search needs, omega (arith, id-short (c .before .be
 
 returns : tie.Need-returns
 unfolding transferGives
-returns c = let a = c .before .before .before .before .before .before .before .before .before .args in ends-writes (withPort (a .card) (a .p) (delegated (portAt (a .card) (a .p)) (a .amount))) (c .written .ensures ∙ ap (λ (x : Port). made (withPort (a .card) (a .p) x) 0 (c .before .before .before .put-amount .result)) (c .before .before .before .before .before .before .delegate .ensures)) (c .before .before .before .put-amount .ensures) (ap (λ (id : List ℕ). amountReply (a .h) 147 3 0 id (a .amount)) (c .before .before .before .before .id-at .ensures))
+returns c = let a = c .before .before .before .before .before .before .before .before .before .args in ends-writes (withPort (a .card) (a .p) (delegated (portAt (a .card) (a .p)) (a .amount))) (c .written .ensures ∙ ap (λ (table : List Port). made (withTable (a .card) table) 0 (c .before .before .before .put-amount .result)) (c .before .before .before .before .before .before .set-delegation-in .ensures)) (c .before .before .before .put-amount .ensures) (ap (λ (id : List ℕ). amountReply (a .h) 147 3 0 id (a .amount)) (c .before .before .before .before .id-at .ensures))
 
 pub give-spec : {M : Type 1} → statement M
 give-spec =
     tie.close
     (tie.spec
-    (λ c. search needs)
-    (λ c. search needs)
     (λ c κs. search needs)
-    (λ c. search needs)
-    (λ c. search needs)
     (λ c κs. search needs)
     put-amount-requires
     (λ c κs. search needs)
