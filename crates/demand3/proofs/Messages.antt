@@ -24,7 +24,8 @@ use Rattle.demand3.specs.Calls.Call.{message}
 use Rattle.demand3.specs.Ledger.{Ledger, write, kindIn, resultIn, tlvsIn, portIn, amountIn, actedIn, actsAll, writeAt, messageEntry, entry, entered}
 use Rattle.demand3.proofs.Agree.{Agree, TablesTaken, agree-as, write-back}
 use Rattle.demand3.proofs.Replies.{kind-none}
-use Rattle.demand3.proofs.Views.{Passes, port-below, Came, kept, notice, refused, ordered, reduced, queried, answered, came}
+use Rattle.checks.proofs.Rows.{TablePassed}
+use Rattle.demand3.proofs.Views.{port-below, Came, kept, notice, refused, ordered, reduced, queried, answered, came}
 use Rattle.demand3.proofs.Commands.{ran, Tells, commands-tell, acted-told}
 use Rattle.demand3.proofs.Acts.{commands-agree}
 use Rattle.demand3.proofs.Entries.{entry-ordered, entry-kept, entry-other, refused-agrees}
@@ -32,7 +33,7 @@ use Rattle.demand3.proofs.Delegations.{ledgerBehind, Agreed, reallocate
 
 module _ (t : Tables) (card : Card) (l : Ledger) (a : Agree t card l) (m : List ℕ) where
   -- ---- what a message that passes the table has, in the ledger's terms
-  module _ {p : ℕ} (s : Passes (t .ids) card (headerIn m) (drop 16 m) p) where
+  module _ {p : ℕ} (s : TablePassed (t .ids) card (headerIn m) (drop 16 m) p) where
     pub names-port : portIn t m ≡ At p
     unfolding portIn
     names-port = ap (λ (n : ℕ). portOf (t .ids) n (idIn (drop 16 m))) (sym (a .ports)) ∙ s .found
@@ -45,7 +46,7 @@ module _ (t : Tables) (card : Card) (l : Ledger) (a : Agree t card l) (m : List 
     port-below-64 = port-below (t .ids) (card .«port_count») (idIn (drop 16 m)) (s .found) .1
 
     line-up : l p .isUp ≡ true
-    line-up = sym (a .at p port-below-64 .is-up) ∙ s .is-up
+    line-up = sym (a .at p port-below-64 .is-up) ∙ s .up
 
   -- ---- commands on a port that is up: the ledger reads how many acted
   module _ (p : ℕ) (below : p < 64) (up : l p .isUp ≡ true) where

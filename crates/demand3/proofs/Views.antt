@@ -1,34 +1,31 @@
 -- What a message comes to, taken apart once: the answers that there are, each with what the tests before it showed.
---     Passes       what a message that passes the table has
 --     port-below   a port that is found is below the count, and below 64
 --     Came, came   the kinds of answer, and that there are no others
 -- Assumes nothing.
-use Prim.Native.Nat.{ℕ, _<_, min}
-use mathlib.Core.Path.{_≡_, refl, sym, ap, _∙_}
+use Prim.Native.Nat.{ℕ, _<_}
+use mathlib.Core.Path.{_≡_, refl}
 use mathlib.Core.Bool.{Bool, true, false, cond, _&&_, _||_}
 use mathlib.Core.List.{List}
 use native.Mathlib.Omega.{arith}
-use lib.ListN.{length, drop}
+use lib.ListN.{drop}
 use lib.Dec.{eqb, ltb}
 use borrow.Author.Tests.{eqb-true, eqb-false}
 use Rattle.octets.proofs.Tests.{both}
 use Rattle.header.specs.declared.Header.{Header}
 use Rattle.header.specs.declared.Head.the-variants.{Unusable, Usable}
 use Rattle.header.specs.Header.{sizeOk, usable, headerIn, headIn}
-use Rattle.tlv.specs.Depth.{depthOf, listOk}
 use Rattle.items.specs.Items.{itemsOf, firstOf}
 use Rattle.fields.specs.Fields.{allocationIn, requestIn}
-use Rattle.rows.specs.declared.Found.{Found}
-use Rattle.rows.specs.declared.Found.the-variants.{At, Nothing}
-use Rattle.rows.proofs.Rows.{found-at}
-use Rattle.circuits.specs.Circuits.{idAt, portOf, hasId}
+use Rattle.rows.specs.declared.Found.the-variants.{At}
+use Rattle.circuits.specs.Circuits.{idAt, portOf}
+use Rattle.circuits.proofs.Circuits.{port-found}
 use Rattle.card.specs.declared.Card.{Card}
 use Rattle.card.specs.Cards.{portAt}
 use Rattle.card.specs.Outcome.{Outcome, keeps, writes}
 use Rattle.checks.specs.declared.Verdict.{Verdict}
 use Rattle.checks.specs.declared.Verdict.the-variants.{Refused, Passed}
-use Rattle.checks.specs.Named.{needed, missing}
-use Rattle.checks.specs.Table.{handled, resultOk, idIn, located, faults, namedRows, tableOf, refusedOf}
+use Rattle.checks.specs.Table.{tableOf, refusedOf}
+use Rattle.checks.proofs.Rows.{TablePassed, passed-tells}
 use Rattle.control.specs.Control.{controlled}
 use Rattle.transfers.specs.Transfers.{reallocated, transferred}
 use Rattle.queries.specs.Queries.{delegationQuery, flowQuery}
@@ -37,48 +34,9 @@ use Rattle.messages.specs.Messages.{isAnswer, isNotice, byType, requested, refu
 use Rattle.demand3.specs.Ledger.{kindIn}
 use Rattle.demand3.proofs.Replies.{kind-amount, kind-flows}
 
--- ---- the table
--- a message that passes the table names port p, which is up, and its Result is one for its type
-pub record Passes (ids : List ℕ) (card : Card) (h : Header) (s : List ℕ) (p : ℕ) : Type 0 where
-  pub result : resultOk (h .kind) (h .result) ≡ true
-  pub found : portOf ids (card .«port_count») (idIn s) ≡ At p
-  pub is-up : portAt card p .up ≡ true
-
-refused-passed : {code p : ℕ} → Refused code ≡ Passed p → ⊥
-refused-passed e = let z : _≡_ {A = ℕ} 0 1 = cc in omega arith
-
-passed-eq : {q p : ℕ} → Passed q ≡ Passed p → q ≡ p
-passed-eq e = cc
-
--- a row that is passed
-passed-by : (b : Bool) (v : Verdict) (code : ℕ) {p : ℕ} → cond b v (Refused code) ≡ Passed p → (b ≡ true) × (v ≡ Passed p)
-passed-by true v code e = (refl, e)
-passed-by false v code e = absurd (refused-passed e)
-
-located-by : (card : Card) (r : Found) {p : ℕ} → located card r ≡ Passed p → (r ≡ At p) × (portAt card p .up ≡ true)
-unfolding located
-located-by card Nothing e = absurd (refused-passed e)
-located-by card (At q) e =
-    let a = passed-by (portAt card q .up) (Passed q) 0x6 e in
-    let s = passed-eq (a .1) in
-    (ap At s, ap (λ (i : ℕ). portAt card i .up) (sym s) ∙ a .0)
-
-module _ (ids : List ℕ) (card : Card) (h : Header) (s : List ℕ) where
-  table-passes : {p : ℕ} → tableOf ids card h s ≡ Passed p → Passes ids card h s p
-  unfolding tableOf namedRows
-  table-passes e =
-      let a = passed-by (handled (h .kind)) _ 0x51 e in
-      let b = passed-by (resultOk (h .kind) (h .result)) _ 0x2 (a .1) in
-      let c = passed-by (listOk (depthOf (h .result)) false s) _ 0x53 (b .1) in
-      let d = passed-by (eqb (length (missing (needed (h .kind)) (itemsOf s))) 0) _ 0x54 (c .1) in
-      let f = passed-by (eqb (length (faults (h .kind) s)) 0) _ 0x55 (d .1) in
-      let g = located-by card (portOf ids (card .«port_count») (idIn s)) (f .1) in
-      record { result = b .0; found = g .0; is-up = g .1 }
-
 -- a port that is found is one of them, and below 64
 pub port-below : (ids : List ℕ) (n : ℕ) (id : List ℕ) {p : ℕ} → portOf ids n id ≡ At p → (p < n) × (p < 64)
-unfolding portOf
-port-below ids n id e = let b = found-at (hasId ids id) (min n 64) e .below in (omega arith, omega arith)
+port-below ids n id e = let f = port-found ids n id e in (f .below, f .small)
 
 -- ---- the answers
 abbrev pub Other : ℕ → ℕ → Type 0
@@ -99,19 +57,19 @@ module _ (ids channels : List ℕ) (card : Card) (m : List ℕ) where
     -- a row of the table
     refused : (code : ℕ) → Other (head .kind) 147 → Came (writes card (refusedOf head rest code))
     -- and past the table, by type
-    ordered : (p : ℕ) → head .kind ≡ 144 → Passes ids card head rest p → Came (controlled ids channels card head p rest)
-    reduced : (p : ℕ) → head .kind ≡ 146 → Passes ids card head rest p
+    ordered : (p : ℕ) → head .kind ≡ 144 → TablePassed ids card head rest p → Came (controlled ids channels card head p rest)
+    reduced : (p : ℕ) → head .kind ≡ 146 → TablePassed ids card head rest p
         → Came (reallocated ids channels card head p (requestIn (firstOf 0x0016 (itemsOf rest))))
     -- a query, answered by its own type
     queried : (reply : List ℕ) → Other (head .kind) 144 → Other (head .kind) 147 → kindIn reply ≡ head .kind → Came (writes card reply)
-    answered : (p : ℕ) → head .kind ≡ 147 → isAnswer (head .result) ≡ true → Passes ids card head rest p
+    answered : (p : ℕ) → head .kind ≡ 147 → isAnswer (head .result) ≡ true → TablePassed ids card head rest p
         → Came (transferred card head p (allocationIn (firstOf 0x0015 (itemsOf rest))))
 
   pick : (b : Bool) (x y : Outcome) → (b ≡ true → Came x) → (b ≡ false → Came y) → Came (cond b x y)
   pick true x y f g = f refl
   pick false x y f g = g refl
 
-  came-type : (p : ℕ) → Other (head .kind) 147 → Passes ids card head rest p → Came (byType ids channels card head rest p)
+  came-type : (p : ℕ) → Other (head .kind) 147 → TablePassed ids card head rest p → Came (byType ids channels card head rest p)
   unfolding byType delegationQuery flowQuery
   came-type p n a =
       pick (eqb (head .kind) 144) _ _ (λ e. ordered p (eqb-true (head .kind) 144 e) a)
@@ -124,7 +82,7 @@ module _ (ids channels : List ℕ) (card : Card) (m : List ℕ) where
   came-requested : Other (head .kind) 147 → (v : Verdict) → tableOf ids card head rest ≡ v → Came (requested ids channels card head rest v)
   unfolding requested
   came-requested n (Refused code) e = refused code n
-  came-requested n (Passed p) e = came-type p n (table-passes ids card head rest e)
+  came-requested n (Passed p) e = came-type p n (passed-tells ids card head rest e)
 
   not-zero : (code : ℕ) → Other (refusedNumber code) 0
   unfolding refusedNumber
@@ -137,7 +95,7 @@ module _ (ids channels : List ℕ) (card : Card) (m : List ℕ) where
   came-offered : head .kind ≡ 147 → isAnswer (head .result) ≡ true → (v : Verdict) → tableOf ids card head rest ≡ v → Came (offered card head rest v)
   unfolding offered
   came-offered k a (Refused code) e = kept (refusedNumber code) (not-zero code)
-  came-offered k a (Passed p) e = answered p k a (table-passes ids card head rest e)
+  came-offered k a (Passed p) e = answered p k a (passed-tells ids card head rest e)
 
   came-result : Came (byResult ids channels card head rest)
   unfolding byResult isNotice
