@@ -1,0 +1,305 @@
+//! The proved card, through its C functions (include/ancp_card.h).
+use crate::card::Request;
+use crate::host::{HostFlow, Start, MAX_CHANNELS, MAX_ENTRIES, MAX_PORTS};
+use std::rc::Rc;
+
+#[repr(C)]
+#[derive(Clone, Copy, PartialEq)]
+struct RawPort {
+    up: bool,
+    asking: bool,
+    delegation: u32,
+    required: u32,
+    preferred: u32,
+    transaction: u32,
+}
+
+#[repr(C)]
+#[derive(Clone, Copy, PartialEq)]
+struct RawPool {
+    owner: [u8; 512],
+    channel: [u8; 512],
+    charged: [bool; 512],
+    accounting: [u8; 512],
+}
+
+#[repr(C)]
+#[derive(Clone, Copy, PartialEq)]
+struct RawCounter {
+    number: u32,
+}
+
+#[repr(C)]
+#[derive(Clone, Copy, PartialEq)]
+pub struct RawCard {
+    ports: [RawPort; MAX_PORTS],
+    pool: RawPool,
+    counter: RawCounter,
+    port_count: usize,
+    channel_count: usize,
+    entry_count: usize,
+    white_cac: bool,
+    add_cac: bool,
+}
+
+#[repr(C)]
+#[derive(Clone, Copy)]
+struct RawFlow {
+    family: u32,
+    sourced: u32,
+    group: [u32; 4],
+    source: [u32; 4],
+}
+
+#[repr(C)]
+#[derive(Clone, Copy)]
+struct RawRows {
+    count: usize,
+    rows: [u8; 16],
+}
+
+#[repr(C)]
+#[derive(Clone, Copy)]
+struct RawAfter {
+    card: RawCard,
+    number: u8,
+    length: usize,
+}
+
+#[repr(C)]
+#[derive(Clone, Copy)]
+struct RawStarted {
+    card: RawCard,
+    number: u8,
+}
+
+type Ids = *const u8;
+type Words = *const u32;
+
+extern "C" {
+    fn ancp_card_started(
+        ids: Ids,
+        ports: usize,
+        channels: Words,
+        channel_count: usize,
+        entries: Words,
+        entry_count: usize,
+        white_cac: bool,
+        add_cac: bool,
+        first: u32,
+    ) -> RawStarted;
+    fn ancp_card_after_up(card: RawCard, p: usize) -> RawAfter;
+    fn ancp_card_after_down(card: RawCard, p: usize) -> RawAfter;
+    fn ancp_card_after_delegation(card: RawCard, channels: Words, p: usize, amount: u32) -> RawAfter;
+    fn ancp_card_after_join(
+        card: RawCard,
+        ids: Ids,
+        channels: Words,
+        entries: Words,
+        p: usize,
+        f: RawFlow,
+        reply: *mut u8,
+        room: usize,
+    ) -> RawAfter;
+    fn ancp_card_after_leave(card: RawCard, channels: Words, p: usize, f: RawFlow) -> RawAfter;
+    fn ancp_card_after_ask(card: RawCard, ids: Ids, p: usize, required: u32, preferred: u32, reply: *mut u8, room: usize) -> RawAfter;
+    fn ancp_card_after_message(
+        card: RawCard,
+        ids: Ids,
+        channels: Words,
+        octets: *const u8,
+        n: usize,
+        reply: *mut u8,
+        room: usize,
+    ) -> RawAfter;
+    fn ancp_card_up_in(card: RawCard, p: usize) -> bool;
+    fn ancp_card_delegation_in(card: RawCard, p: usize) -> u32;
+    fn ancp_card_committed_in(card: RawCard, channels: Words, p: usize) -> u64;
+    fn ancp_card_flows_in(card: RawCard, channels: Words, p: usize) -> RawRows;
+    fn ancp_card_active_in(card: RawCard, channels: Words, p: usize, f: RawFlow) -> bool;
+    fn ancp_card_extras_in(card: RawCard) -> usize;
+    fn ancp_card_next_in(card: RawCard) -> u32;
+}
+
+/// The start's tables as the C functions take them.
+struct Tables {
+    ids: [u8; MAX_PORTS * 64],
+    channels: [u32; MAX_CHANNELS * 11],
+    entries: [u32; MAX_ENTRIES * 12],
+}
+
+/// A number and a reply length.
+#[derive(Clone, Copy, Debug, PartialEq, Eq)]
+pub struct ProvedAnswer {
+    pub number: u8,
+    pub length: usize,
+}
+
+/// A card with its tables, which copies share.
+#[derive(Clone)]
+pub struct Proved {
+    card: RawCard,
+    tables: Rc<Tables>,
+    /// How port 0 stands in the pool's owner map: 1 if 0 marks a free record there.
+    first_owner: u8,
+}
+
+impl Proved {
+    /// The started card, or the number.
+    pub fn start(s: &Start) -> Result<Proved, u8> {
+        let tables = Rc::new(fill(s));
+        let started = unsafe {
+            ancp_card_started(
+                tables.ids.as_ptr(),
+                s.ports,
+                tables.channels.as_ptr(),
+                s.channel_count,
+                tables.entries.as_ptr(),
+                s.entry_count,
+                s.white_cac,
+                s.add_cac,
+                s.first,
+            )
+        };
+        match started.number {
+            0 => Ok(Proved { card: started.card, tables, first_owner: (started.card.pool.owner[0] == 0) as u8 }),
+            number => Err(number),
+        }
+    }
+
+    fn keep(&mut self, after: RawAfter) -> ProvedAnswer {
+        self.card = after.card;
+        ProvedAnswer { number: after.number, length: after.length }
+    }
+
+    pub fn port_up(&mut self, p: usize) -> ProvedAnswer {
+        let after = unsafe { ancp_card_after_up(self.card, p) };
+        self.keep(after)
+    }
+
+    pub fn port_down(&mut self, p: usize) -> ProvedAnswer {
+        let after = unsafe { ancp_card_after_down(self.card, p) };
+        self.keep(after)
+    }
+
+    pub fn set_delegation(&mut self, p: usize, amount: u32) -> ProvedAnswer {
+        let after = unsafe { ancp_card_after_delegation(self.card, self.channels(), p, amount) };
+        self.keep(after)
+    }
+
+    pub fn join(&mut self, p: usize, f: &HostFlow, reply: &mut [u8]) -> ProvedAnswer {
+        let after = unsafe {
+            ancp_card_after_join(
+                self.card,
+                self.ids(),
+                self.channels(),
+                self.tables.entries.as_ptr(),
+                p,
+                raw_flow(f),
+                reply.as_mut_ptr(),
+                reply.len(),
+            )
+        };
+        self.keep(after)
+    }
+
+    pub fn leave(&mut self, p: usize, f: &HostFlow) -> ProvedAnswer {
+        let after = unsafe { ancp_card_after_leave(self.card, self.channels(), p, raw_flow(f)) };
+        self.keep(after)
+    }
+
+    pub fn ask(&mut self, p: usize, required: u32, preferred: u32, reply: &mut [u8]) -> ProvedAnswer {
+        let after = unsafe { ancp_card_after_ask(self.card, self.ids(), p, required, preferred, reply.as_mut_ptr(), reply.len()) };
+        self.keep(after)
+    }
+
+    pub fn message(&mut self, octets: &[u8], reply: &mut [u8]) -> ProvedAnswer {
+        let after = unsafe {
+            ancp_card_after_message(self.card, self.ids(), self.channels(), octets.as_ptr(), octets.len(), reply.as_mut_ptr(), reply.len())
+        };
+        self.keep(after)
+    }
+
+    fn ids(&self) -> Ids {
+        self.tables.ids.as_ptr()
+    }
+
+    fn channels(&self) -> Words {
+        self.tables.channels.as_ptr()
+    }
+}
+
+/// The readers.
+impl Proved {
+    pub fn is_up(&self, p: usize) -> bool {
+        unsafe { ancp_card_up_in(self.card, p) }
+    }
+
+    pub fn delegation(&self, p: usize) -> u32 {
+        unsafe { ancp_card_delegation_in(self.card, p) }
+    }
+
+    pub fn committed(&self, p: usize) -> u64 {
+        unsafe { ancp_card_committed_in(self.card, self.channels(), p) }
+    }
+
+    /// The channel rows of the port's flows, in order; none if the count is above 16.
+    pub fn flows(&self, p: usize) -> Option<Vec<u8>> {
+        let rows = unsafe { ancp_card_flows_in(self.card, self.channels(), p) };
+        rows.rows.get(..rows.count).map(<[u8]>::to_vec)
+    }
+
+    pub fn is_active(&self, p: usize, f: &HostFlow) -> bool {
+        unsafe { ancp_card_active_in(self.card, self.channels(), p, raw_flow(f)) }
+    }
+
+    pub fn extras(&self) -> usize {
+        unsafe { ancp_card_extras_in(self.card) }
+    }
+
+    pub fn next_transaction(&self) -> u32 {
+        unsafe { ancp_card_next_in(self.card) }
+    }
+
+    /// The whole record, to see that a refusal keeps it.
+    pub fn record(&self) -> RawCard {
+        self.card
+    }
+
+    /// No reader gives the open request or a flow's marks; they are read from the record itself.
+    pub fn request(&self, p: usize) -> Option<Request> {
+        let port = self.card.ports.get(p).filter(|port| port.asking)?;
+        Some(Request { transaction: port.transaction, required: port.required, preferred: port.preferred })
+    }
+
+    /// Accounting and charge of the port's flow on a channel row.
+    pub fn marks(&self, p: usize, row: u8) -> Option<(u8, bool)> {
+        let pool = &self.card.pool;
+        let owner = p as u8 + self.first_owner;
+        let record = (0..512).find(|&i| pool.owner[i] == owner && pool.channel[i] == row)?;
+        Some((pool.accounting[record], pool.charged[record]))
+    }
+}
+
+fn raw_flow(f: &HostFlow) -> RawFlow {
+    RawFlow { family: f.family, sourced: f.sourced, group: f.group, source: f.source }
+}
+
+fn fill(s: &Start) -> Tables {
+    let mut t = Tables { ids: [0; MAX_PORTS * 64], channels: [0; MAX_CHANNELS * 11], entries: [0; MAX_ENTRIES * 12] };
+    for (row, id) in t.ids.chunks_exact_mut(64).zip(&s.ids) {
+        row[0] = id.length;
+        row[1..].copy_from_slice(&id.octets);
+    }
+    for (row, c) in t.channels.chunks_exact_mut(11).zip(&s.channels) {
+        row[..3].copy_from_slice(&[c.flow.family, c.flow.sourced, c.rate]);
+        row[3..7].copy_from_slice(&c.flow.group);
+        row[7..].copy_from_slice(&c.flow.source);
+    }
+    for (row, e) in t.entries.chunks_exact_mut(12).zip(&s.entries) {
+        row[..4].copy_from_slice(&[e.family, e.list, e.group_bits, e.source_bits]);
+        row[4..8].copy_from_slice(&e.group);
+        row[8..].copy_from_slice(&e.source);
+    }
+    t
+}
