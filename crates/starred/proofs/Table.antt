@@ -29,7 +29,7 @@ use Rattle.begun.specs.Begun.{reallocationOf}
 use Rattle.joins.specs.Joins.{fits, admitNumber, whiteOf, byList, joinRow, joinOf}
 use Rattle.joins.specs.Asks.{askedOf, askOf}
 use Rattle.listing.specs.Listing.{activeRow, activeAt}
-use Rattle.checks.specs.Named.{needed, missing, singleOf, fromFault}
+use Rattle.checks.specs.Named.{beside, missing, singleOf, fromFault}
 use Rattle.checks.specs.Table.{handled, resultOk, idIn, located, namedRows, tableOf}
 use Rattle.transfers.specs.Transfers.{reducedTo, transferFails, transferGives, reallocated}
 use Rattle.messages.specs.Messages.{isAnswer, isNotice, byType, requested, byResult, byHead, receivedOf}
@@ -49,7 +49,7 @@ unfolding flatMap every mapTo sumTo
     idOk channelOk knownList withinAddress entryOk tablesOk firstOk startOf startedOf
     isPort delegationOf committedAt activeRow activeAt sumOver freeIn roomIn began mayAsk
     outcomeOf fits admitNumber whiteOf byList joinRow joinOf askedOf askOf
-    receivedOf byHead byResult isAnswer isNotice requested byType tableOf handled resultOk namedRows needed missing singleOf fromFault idIn located
+    receivedOf byHead byResult isAnswer isNotice requested byType tableOf handled resultOk namedRows beside missing singleOf fromFault idIn located
     reallocated reducedTo transferFails transferGives
     idRow groupAt channelsFrom rates tables upWith ownersFrom channelsIn poolOf cardWith many committed3000 committed3500 crowded
     flow joins asks requests ofJoin shownBy shown rows Starred
