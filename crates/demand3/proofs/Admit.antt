@@ -9,7 +9,7 @@ use Prim.Native.Nat.{ℕ, _+_, _≤_, _<_}
 use mathlib.Core.Path.{_≡_, refl, sym, ap, ap₂, subst, _∙_}
 use mathlib.Core.Bool.{Bool, true, false, cond, false≢true}
 use mathlib.Core.List.{List, [], _∷_}
-use mathlib.Core.Logic.{_↔_}
+use mathlib.Core.Logic.{_↔_, ⊎-elim}
 use native.Mathlib.Omega.{arith}
 use lib.ListN.{length}
 use lib.Dec.{eqb, leb}
@@ -28,8 +28,9 @@ use Rattle.card.specs.Cards.{withPool}
 use Rattle.joins.specs.Joins.{fits, admitNumber}
 use Rattle.demand3.specs.Calls.{Tables}
 use Rattle.demand3.specs.Ledger.{Held, Ledger, write, holds, without, withFlows, begins}
-use Rattle.demand3.specs.Claim.{rateOf, charges, allExtras, Once, Room, Starts}
-use Rattle.demand3.proofs.Rows.{flowSum, AllListed, found, listed-at, row-is, rate-is, without-sum, without-listed, without-once, without-charges}
+use Rattle.demand3.specs.Reads.{rateOf}
+use Rattle.demand3.specs.Claim.{charges, allExtras, Once, Room, Starts}
+use Rattle.demand3.proofs.Rows.{flowSum, AllListed, found, listed-at, row-is, rate-is, without-sum, without-listed, without-once, without-few, without-charges}
 use Rattle.demand3.proofs.Agree.{Agree, agree-as, write-back}
 use Rattle.demand3.proofs.Figures.{count-is, extras-is, committed-is}
 use Rattle.demand3.proofs.Steps.{pool-step}
@@ -44,6 +45,11 @@ module _ (t : Tables) (card : Card) (l : Ledger) (a : Agree t card l) (p : ℕ) 
 
   pub room-means : (hasRoom (card .pool) p ≡ true) ↔ Room (length (l p .flows)) (allExtras l)
   room-means = (λ h. room-facts (length (l p .flows)) (allExtras l) (sym room-test ∙ h), λ r. room-test ∙ room-by (length (l p .flows)) (allExtras l) r)
+
+  -- and a flow more is at most the sixteenth
+  room-few : Room (length (l p .flows)) (allExtras l) → length (l p .flows) < 16
+  room-few r =
+      ⊎-elim (λ (h : length (l p .flows) < 4). omega arith) (λ (h : (length (l p .flows) < 16) × (allExtras l < 256)). h .0) r
 
   module _ (f : Flow) (k : ℕ) (e : found t f ≡ At k) where
     fits-test : fits (t .channels) card p k ≡ leb (charges t (l p) + rateOf t f) (l p .delegation)
@@ -98,6 +104,7 @@ module _ (t : Tables) (card : Card) (l : Ledger) (a : Agree t card l) (p : ℕ) 
           flows = λ w. omega (arith, pool-began (card .pool) (a .whole) some p k cac v (λ j c x. w j c) (not-free p port), a .at p port .flows w, ap (λ (j : ℕ). w j cac) (row-is t f e));
           rows = (listed-at t f e, a .at p port .rows);
           once = (idle, a .at p port .once);
+          few = omega (arith, room-few (room-means .0 room));
           bounded = starts-bounded cac s;
           idle = λ d. absurd (false≢true (sym d ∙ up));
         })
@@ -114,9 +121,9 @@ module _ (t : Tables) (card : Card) (l : Ledger) (a : Agree t card l) (p : ℕ) 
 
   -- ---- flows end
   ended-step : (sel : ℕ → Bool) (hs : List Held) → ((w : ℕ → Bool → ℕ) → flowSum t (λ j c. cond (sel j) 0 (w j c)) (l p .flows) ≡ flowSum t w hs)
-      → AllListed t hs → Once hs → charges t (withFlows (l p) hs) ≤ charges t (l p) → (l p .isUp ≡ false → hs ≡ [])
+      → AllListed t hs → Once hs → length hs ≤ length (l p .flows) → charges t (withFlows (l p) hs) ≤ charges t (l p) → (l p .isUp ≡ false → hs ≡ [])
       → Agree t (withPool card (ended (card .pool) p sel)) (write l p (withFlows (l p) hs))
-  ended-step sel hs sums rows once less idle =
+  ended-step sel hs sums rows once few less idle =
       pool-step t card l a p port (ended (card .pool) p sel) hs
       (record {
         whole = whole-ended (card .pool) (a .whole) p sel;
@@ -126,6 +133,7 @@ module _ (t : Tables) (card : Card) (l : Ledger) (a : Agree t card l) (p : ℕ) 
         flows = λ w. pool-ended (card .pool) p sel (λ j c x. w j c) (not-free p port) ∙ a .at p port .flows (λ j c. cond (sel j) 0 (w j c)) ∙ sums w;
         rows = rows;
         once = once;
+        few = omega (arith, a .at p port .few);
         bounded = omega (arith, a .at p port .bounded);
         idle = idle;
       })
@@ -135,7 +143,8 @@ module _ (t : Tables) (card : Card) (l : Ledger) (a : Agree t card l) (p : ℕ) 
   unfolding without
   flow-ends f k e =
       ended-step (λ j. eqb j k) (without f (l p .flows)) (λ w. sym (without-sum t f k e w (l p .flows) (a .at p port .rows)))
-      (without-listed t f (l p .flows) (a .at p port .rows)) (without-once t f (l p .flows) (a .at p port .once)) (without-charges t f (l p))
+      (without-listed t f (l p .flows) (a .at p port .rows)) (without-once t f (l p .flows) (a .at p port .once)) (without-few t f (l p .flows))
+      (without-charges t f (l p))
       (λ d. ap (without f) (a .at p port .idle d))
 
   none-left : (w : ℕ → Bool → ℕ) (hs : List Held) → flowSum t (λ j c. cond true 0 (w j c)) hs ≡ 0
@@ -145,7 +154,7 @@ module _ (t : Tables) (card : Card) (l : Ledger) (a : Agree t card l) (p : ℕ) 
 
   pub all-end : Agree t (withPool card (endedAll (card .pool) p)) (write l p (withFlows (l p) []))
   unfolding flowSum sumBy AllListed Once charges
-  all-end = ended-step (λ j. true) [] (λ w. none-left w (l p .flows)) tt tt (omega arith) (λ d. refl)
+  all-end = ended-step (λ j. true) [] (λ w. none-left w (l p .flows)) tt tt (omega arith) (omega arith) (λ d. refl)
 
   -- ---- accounting
   pub accounted-step : (k v : ℕ) → Agree t (withPool card (accounted (card .pool) p k v)) l
@@ -161,6 +170,7 @@ module _ (t : Tables) (card : Card) (l : Ledger) (a : Agree t card l) (p : ℕ) 
         flows = λ w. charges-kept (card .pool) p k v p w ∙ a .at p port .flows w;
         rows = a .at p port .rows;
         once = a .at p port .once;
+        few = a .at p port .few;
         bounded = a .at p port .bounded;
         idle = a .at p port .idle;
       }))

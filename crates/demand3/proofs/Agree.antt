@@ -32,6 +32,7 @@ pub record PortAgrees (t : Tables) (card : Card) (x : Line) (p : ℕ) : Type 0 w
   pub flows : (w : ℕ → Bool → ℕ) → poolSum (card .pool) p w ≡ flowSum t w (x .flows)
   pub rows : AllListed t (x .flows)
   pub once : Once (x .flows)
+  pub few : length (x .flows) ≤ 16
   pub bounded : charges t x ≤ x .delegation
   -- a port that is down has no flows
   pub idle : x .isUp ≡ false → x .flows ≡ []

@@ -5,6 +5,7 @@ use mathlib.Core.Logic.{inl}
 use mathlib.Core.Bool.{Bool, true, false, cond, false≢true}
 use mathlib.Core.List.{List, [], _∷_}
 use native.Mathlib.Omega.{arith}
+use lib.ListN.{length, drop, length-drop}
 use borrow.Author.Tests.{eq-eqb, le-leb}
 use Rattle.octets.specs.Tests.{every}
 use Rattle.sums.specs.Sums.{sumBy}
@@ -16,15 +17,16 @@ use Rattle.card.specs.Calls.{portUpOf, setDelegationOf}
 use Rattle.card.specs.Figures.{upOf}
 use Rattle.listing.specs.Listing.{activeAt}
 use Rattle.commands.specs.Commands.{ranOf}
-use Rattle.demand3.specs.Calls.{Call, ours, outcomeOf, startedOf, history, seen}
+use Rattle.demand3.specs.Calls.{Call, ours, outcomeOf, startedOf, cardAfter, history, seen}
 use Rattle.demand3.specs.Calls.Call.{portUp, setDelegation, join, message}
-use Rattle.demand3.specs.Ledger.{Ledger, opened, write, withDelegation, holds, begins, entry, entered, ledgerFrom, ledgerOf}
+use Rattle.demand3.specs.Ledger.{Ledger, opened, write, withDelegation, holds, begins, entry, entered, ledgerFrom}
 use Rattle.demand3.specs.Claim.{charges, Starts, Claim}
-use Rattle.demand3.specs.Builds.{calling, refusing, agreeable, idle, firstRun, firstOnly, deaf, inventing, Worthless}
+use Rattle.demand3.specs.Builds.{calling, refusing, agreeable, idle, firstRun, firstOnly, deaf, inventing, forgetful, Worthless}
 use Rattle.demand3.proofs.Agree.{Agree}
 use Rattle.demand3.proofs.Figures.{committed-is}
 use Rattle.demand3.proofs.Host.{delegation-step}
 use Rattle.demand3.proofs.Join.{join-starts}
+use Rattle.demand3.proofs.Calls.{claim}
 use Rattle.demand3.proofs.BuildsStart.{
   small,
   first,
@@ -130,10 +132,11 @@ joined-number =
 abbrev charged : Ledger
 charged = write given 0 (begins (given 0) first true)
 
-charged-is : ledgerOf (small true) (history ours (small true) (started true) calls) ≡ charged
+charged-is : ledgerFrom (small true) opened (history ours (small true) (startedOf (small true) 1 .card) calls) ≡ charged
 unfolding history ledgerFrom entry
 charged-is =
-    ap (λ (l : Ledger). next (delegated .card) (join 0 first 4608) (next (upped true) (setDelegation 0 1000) l)) (enters (started true) (portUp 0) opened (up-number true))
+    ap (λ (card : Card). ledgerFrom (small true) opened (history ours (small true) card calls)) (started-is true)
+    ∙ ap (λ (l : Ledger). next (delegated .card) (join 0 first 4608) (next (upped true) (setDelegation 0 1000) l)) (enters (started true) (portUp 0) opened (up-number true))
     ∙ ap (next (delegated .card) (join 0 first 4608)) given-is
     ∙ enters (delegated .card) (join 0 first 4608) given joined-number
 
@@ -141,12 +144,22 @@ charged-is =
 invents-committed : Claim inventing → ⊥
 unfolding history charges sumBy write
 invents-committed c =
-    let reads : 0 ≡ charges (small true) (ledgerOf (small true) (history ours (small true) (startedOf (small true) 1 .card) calls) 0) =
+    let reads : 0 ≡ charges (small true) (ledgerFrom (small true) opened (history ours (small true) (startedOf (small true) 1 .card) calls) 0) =
     c .holds-after (small true) 1 (taken true) calls .committed 0 (omega arith) in
     let none : 0 ≡ charges (small true) (charged 0) =
-    reads ∙ ap (λ (card : Card). charges (small true) (ledgerOf (small true) (history ours (small true) card calls) 0)) (started-is true)
-    ∙ ap (λ (l : Ledger). charges (small true) (l 0)) charged-is in
+    reads ∙ ap (λ (l : Ledger). charges (small true) (l 0)) charged-is in
     omega (arith, first-rate true)
+
+-- the flow is listed
+leaves-out-a-flow : Claim forgetful → ⊥
+unfolding history cardAfter write
+leaves-out-a-flow c =
+    let card : Card = cardAfter ours (small true) (startedOf (small true) 1 .card) calls in
+    let lines : Ledger = ledgerFrom (small true) opened (history ours (small true) (startedOf (small true) 1 .card) calls) in
+    let all : length (ours .flows (small true) card 0) ≡ length (lines 0 .flows) = claim .holds-after (small true) 1 (taken true) calls .count 0 (omega arith) in
+    let fewer : length (drop 1 (ours .flows (small true) card 0)) ≡ length (lines 0 .flows) = c .holds-after (small true) 1 (taken true) calls .count 0 (omega arith) in
+    let one : length (lines 0 .flows) ≡ 1 = ap (λ (l : Ledger). length (l 0 .flows)) charged-is in
+    omega (arith, length-drop 1 (ours .flows (small true) card 0))
 
 pub worthless : Worthless
 worthless =
@@ -157,4 +170,5 @@ worthless =
       runs-command-1 = runs-command-1;
       refuses-every-message = refuses-every-message;
       invents-committed = invents-committed;
+      leaves-out-a-flow = leaves-out-a-flow;
     }

@@ -31,7 +31,8 @@ use Rattle.commands.specs.Orders.{flowsAsked, flowCount, flowContent, shapeOk, 
 use Rattle.commands.specs.Orders.Order.{add}
 use Rattle.commands.specs.Commands.{ranOf}
 use Rattle.control.specs.Control.{commandsIn}
-use Rattle.demand3.specs.Ledger.{Line, Ledger, write, holds, begins, kindIn, resultIn, tlvsIn, portIn, acts, actsAll}
+use Rattle.demand3.specs.Reads.{kindIn, resultIn, tlvsIn, portIn}
+use Rattle.demand3.specs.Ledger.{Line, Ledger, write, holds, begins, acts, actsAll}
 use Rattle.demand3.specs.Claim.{Starts, Wanted, Succeeds, AllSucceed, behind, Reaches}
 use Rattle.demand3.proofs.Figures.{reads-active}
 use Rattle.demand3.proofs.Command.{obeyed-agrees, obeyed-code}
@@ -121,14 +122,16 @@ pub second-reached : Reaches (small false) one-up both-added 0 second (command 1
 unfolding AllSucceed write
 second-reached =
     record {
-      size = in-order .0;
-      header = in-order .1;
-      kind = added-kind;
+      sound = record {
+        size = in-order .0;
+        header = in-order .1;
+        is-kind = added-kind;
+        lengths = in-order .2;
+        target = one-target .0;
+        circuit = one-target .1;
+        port = added-port;
+      };
       result = inl added-result;
-      sound = in-order .2;
-      target = one-target .0;
-      circuit = one-target .1;
-      port = added-port;
       here = command 2;
       commands = added-commands;
       accounting = 0;

@@ -31,7 +31,8 @@ use Rattle.card.specs.Calls.{portUpOf}
 use Rattle.demand3.specs.Calls.{Tables, Call, outcomeOf, startedOf, cardAfter, history}
 use Rattle.demand3.specs.Calls.Call.{portUp}
 use Rattle.demand3.specs.Ledger.{Line, Ledger, opened, write, holds, entry, entered, ledgerFrom}
-use Rattle.demand3.specs.Claim.{takes, rateBy, rateOf, listed, Wanted, Demand3, Claim}
+use Rattle.demand3.specs.Reads.{listed, rateBy, rateOf}
+use Rattle.demand3.specs.Claim.{takes, Wanted, Demand3, Claim}
 use Rattle.demand3.specs.Builds.{calling}
 use Rattle.demand3.proofs.Agree.{Agree, TablesTaken}
 use Rattle.demand3.proofs.Fresh.{agree-fresh, start-takes}

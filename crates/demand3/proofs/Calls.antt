@@ -11,6 +11,7 @@ use Rattle.demand3.specs.Ledger.{Ledger, entered, ledgerFrom, opened}
 use Rattle.demand3.specs.Claim.{Demand3, Claim}
 use Rattle.demand3.proofs.Agree.{Agree, TablesTaken}
 use Rattle.demand3.proofs.Figures.{reads-up, reads-delegation, reads-active, reads-committed, reads-once, reads-bounded}
+use Rattle.demand3.proofs.Lists.{lists-times, lists-count, lists-order}
 use Rattle.demand3.proofs.Fresh.{agree-fresh, start-takes}
 use Rattle.demand3.proofs.Host.{up-step, down-step, delegation-step, leave-step, ask-step}
 use Rattle.demand3.proofs.Join.{join-step, join-starts}
@@ -44,6 +45,9 @@ module _ (t : Tables) (taken : TablesTaken t) where
         active = λ p f h. reads-active t card l a taken p h f;
         committed = reads-committed t card l a taken;
         once = reads-once t card l a taken;
+        flows = λ p f h. lists-times t card l a taken p h f;
+        count = lists-count t card l a taken;
+        order = lists-order t card l a taken;
         bounded = reads-bounded t card l a taken;
         joins = λ p f room w white large. join-starts t card l a p f room taken w white large;
         adds = adds t taken card l a;

@@ -25,7 +25,8 @@ use Rattle.transfers.specs.Transfers.{transferFails, transferGives}
 use Rattle.messages.specs.Messages.{receivedOf}
 use Rattle.demand3.specs.Calls.{Tables, ours, outcomeOf, cardAfter, seen}
 use Rattle.demand3.specs.Calls.Call.{portDown, setDelegation, message}
-use Rattle.demand3.specs.Ledger.{Line, Ledger, kindIn, resultIn, portIn, entry, entered}
+use Rattle.demand3.specs.Reads.{kindIn, resultIn, portIn}
+use Rattle.demand3.specs.Ledger.{Line, Ledger, entry, entered}
 use Rattle.demand3.specs.Corollaries.{NoneUntilAsked}
 use Rattle.demand3.proofs.Agree.{Agree, TablesTaken, write-same}
 use Rattle.demand3.proofs.Steps.{port-set}

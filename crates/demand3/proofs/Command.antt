@@ -28,7 +28,8 @@ use Rattle.commands.specs.Orders.Order.{ill, add, delete, deleteAll}
 use Rattle.commands.specs.Commands.{fails, succeeds, addNew, addRow, deleteRow, obeyed}
 use Rattle.demand3.specs.Calls.{Tables}
 use Rattle.demand3.specs.Ledger.{Held, Line, Ledger, write, holds, without, withFlows, begins, acts, actsAll}
-use Rattle.demand3.specs.Claim.{listed, Starts, Succeeds}
+use Rattle.demand3.specs.Reads.{listed}
+use Rattle.demand3.specs.Claim.{Starts, Succeeds}
 use Rattle.demand3.proofs.Rows.{found, listed-at, unlisted-at, unlisted-held}
 use Rattle.demand3.proofs.Agree.{Agree, agree-as, write-back}
 use Rattle.demand3.proofs.Figures.{active-is}

@@ -21,7 +21,8 @@ use Rattle.card.specs.declared.Card.{Card}
 use Rattle.card.specs.Outcome.{Outcome, becomes, writes}
 use Rattle.commands.specs.Commands.{ranOf}
 use Rattle.control.specs.Control.{failureOf, allGood, commandsFrom}
-use Rattle.demand3.specs.Ledger.{kindIn, resultIn, enclosedIn, actedIn}
+use Rattle.demand3.specs.Reads.{kindIn, resultIn, enclosedIn}
+use Rattle.demand3.specs.Ledger.{actedIn}
 use Rattle.demand3.proofs.Replies.{kind-none, result-none, kind-refusal, result-refusal, kind-success, result-success, count-failure, sequence-failure}
 use Rattle.demand3.proofs.Views.{Other}
 

@@ -7,15 +7,20 @@ use mathlib.Core.List.{List, _++_}
 use mathlib.Core.Logic.{inl}
 use lib.ListN.{length}
 use Rattle.flows.specs.declared.Flow.{Flow}
+use Rattle.header.specs.Header.{headerIn}
 use Rattle.ports.specs.declared.Port.{Port}
 use Rattle.card.specs.Cards.{portAt}
+use Rattle.card.specs.Outcome.{Outcome}
 use Rattle.demand3.specs.Calls.{Tables, Call, ours, outcomeOf, startedOf}
 use Rattle.demand3.specs.Calls.Call.{setDelegation, message}
 use Rattle.demand3.specs.Ledger.{Line, Ledger, holds, opened}
-use Rattle.demand3.specs.Claim.{charges, rateOf, Starts, Wanted}
-use Rattle.demand3.specs.Corollaries.{NoneNames, cardOf, linesOf, Fits, FirstFour, NoneUntilAsked, Moves, Corollaries}
+use Rattle.demand3.specs.Reads.{kindIn, resultIn, rateOf}
+use Rattle.demand3.specs.Claim.{charges, Starts, Wanted, Sound}
+use Rattle.demand3.specs.Corollaries.{NoneNames, cardOf, linesOf, Fits, FirstFour, NoneUntilAsked, Moves, listReply, Corollaries}
 use Rattle.demand3.proofs.Agree.{Agree, TablesTaken}
 use Rattle.demand3.proofs.Figures.{reads-delegation}
+use Rattle.demand3.proofs.Lists.{lists-reply}
+use Rattle.demand3.proofs.Reached.{sound-below, flows-queried}
 use Rattle.demand3.proofs.Fresh.{agree-fresh, started-port}
 use Rattle.demand3.proofs.Quiet.{call-quiet}
 use Rattle.demand3.proofs.Frames.{entered-delegation, lines-kept}
@@ -85,6 +90,15 @@ module _ (t : Tables) (first : ℕ) (started : startedOf t first .number ≡ 0) 
       ∙ entered-delegation t taken p _ _ a x n k
       ∙ sym (reads-delegation t _ _ a taken p port)
 
+  -- ---- the list of flows
+  flows-answered : (xs : List Call) (m : List ℕ) (room p : ℕ) → Sound t m 149 p → resultIn m ≡ 2 → linesOf t first xs p .isUp ≡ true → 4608 ≤ room
+      → outcomeOf t (cardOf t first xs) (message m room) .reply ≡ listReply t m p (ours .flows t (cardOf t first xs) p)
+  unfolding outcomeOf kindIn
+  flows-answered xs m room p r two up k =
+      let a = after xs in
+      ap (λ (o : Outcome). o .reply) (flows-queried t _ _ a m p r two up room k)
+      ∙ lists-reply t _ _ a taken p (sound-below t _ _ a m 149 p r .0) (headerIn m) (r .is-kind)
+
 pub corollaries : Corollaries
 corollaries =
     record {
@@ -95,4 +109,5 @@ corollaries =
       closed-by-down = λ t first s xs p e. portdown-none t (taken t first s) _ _ (after t first s xs) p (down-after t first s xs p) e;
       closed-by-146 = λ t first s xs m room p kind port k r. reduction-none t (taken t first s) _ _ (after t first s xs) p m kind port room k r;
       delegation-kept = λ t first s xs x p port n k. delegation-kept t first s xs x p port n k;
+      flows-answered = λ t first s xs m room p r two up k. flows-answered t first s xs m room p r two up k;
     }

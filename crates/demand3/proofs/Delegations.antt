@@ -23,7 +23,8 @@ use Rattle.card.specs.Outcome.{Outcome, keeps, becomes, writes}
 use Rattle.transfers.specs.Transfers.{reducedTo, transferFails, transferGives, reallocated, transferred}
 use Rattle.messages.specs.Messages.{isAnswer}
 use Rattle.demand3.specs.Calls.{Tables}
-use Rattle.demand3.specs.Ledger.{Ledger, write, withDelegation, kindIn, resultIn, portIn, amountIn, writeAt, messageEntry}
+use Rattle.demand3.specs.Reads.{kindIn, resultIn, portIn, amountIn}
+use Rattle.demand3.specs.Ledger.{Ledger, write, withDelegation, writeAt, messageEntry}
 use Rattle.demand3.specs.Claim.{charges}
 use Rattle.demand3.proofs.Agree.{Agree, TablesTaken, agree-as, write-back}
 use Rattle.demand3.proofs.Steps.{port-step}

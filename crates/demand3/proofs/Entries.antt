@@ -17,7 +17,8 @@ use Rattle.checks.specs.Table.{enclosedOf, refusedOf}
 use Rattle.control.specs.Control.{commandsIn}
 use Rattle.card.specs.declared.Card.{Card}
 use Rattle.demand3.specs.Calls.{Tables}
-use Rattle.demand3.specs.Ledger.{Line, Ledger, write, withDelegation, kindIn, resultIn, portIn, amountIn, enclosedIn, actedIn, actsAll, writeAt, messageEntry}
+use Rattle.demand3.specs.Reads.{kindIn, resultIn, portIn, amountIn, enclosedIn}
+use Rattle.demand3.specs.Ledger.{Line, Ledger, write, withDelegation, actedIn, actsAll, writeAt, messageEntry}
 use Rattle.demand3.proofs.Agree.{Agree, agree-as, write-back}
 use Rattle.demand3.proofs.Replies.{kind-refusal, result-refusal, refused-unnumbered}
 use Rattle.demand3.proofs.Views.{Other}

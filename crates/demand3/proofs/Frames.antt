@@ -18,7 +18,8 @@ use Rattle.control.specs.Control.{commandsIn}
 use Rattle.card.specs.declared.Card.{Card}
 use Rattle.demand3.specs.Calls.{Tables, Call, ours, outcomeOf, seen, history}
 use Rattle.demand3.specs.Calls.Call.{portUp, portDown, setDelegation, join, leave, ask, message}
-use Rattle.demand3.specs.Ledger.{Line, Ledger, write, withDelegation, kindIn, resultIn, portIn, amountIn, actedIn, actsAll, writeAt, messageEntry, entry, entered, ledgerFrom}
+use Rattle.demand3.specs.Reads.{kindIn, resultIn, portIn, amountIn}
+use Rattle.demand3.specs.Ledger.{Line, Ledger, write, withDelegation, actedIn, actsAll, writeAt, messageEntry, entry, entered, ledgerFrom}
 use Rattle.demand3.specs.Corollaries.{Names, NoneNames, Moves}
 use Rattle.demand3.proofs.Agree.{Agree, TablesTaken, same-or-not, write-same, write-other}
 use Rattle.demand3.proofs.Command.{all-keep}

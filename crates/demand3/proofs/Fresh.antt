@@ -52,6 +52,7 @@ module _ (t : Tables) (first : ℕ) where
           flows = λ w. pool-fresh p (λ k c a. w k c) (λ e. omega arith);
           rows = tt;
           once = tt;
+          few = omega arith;
           bounded = omega arith;
           idle = λ e. refl;
           asks-more = subst (λ (x : Port). x .asking ≡ true → x .delegation < x .required) (sym (fresh-port p h)) (λ e. absurd (false≢true e));

@@ -2,6 +2,7 @@ pub mod Rows
 pub mod Agree
 pub mod Steps
 pub mod Figures
+pub mod Lists
 pub mod Fresh
 pub mod Admit
 pub mod Command

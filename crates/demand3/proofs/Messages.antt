@@ -21,7 +21,8 @@ use Rattle.control.specs.Control.{commandsIn, controlled}
 use Rattle.messages.specs.Messages.{receivedOf}
 use Rattle.demand3.specs.Calls.{Tables, ours, seen, outcomeOf}
 use Rattle.demand3.specs.Calls.Call.{message}
-use Rattle.demand3.specs.Ledger.{Ledger, write, kindIn, resultIn, tlvsIn, portIn, amountIn, actedIn, actsAll, writeAt, messageEntry, entry, entered}
+use Rattle.demand3.specs.Reads.{kindIn, resultIn, tlvsIn, portIn, amountIn}
+use Rattle.demand3.specs.Ledger.{Ledger, write, actedIn, actsAll, writeAt, messageEntry, entry, entered}
 use Rattle.demand3.proofs.Agree.{Agree, TablesTaken, agree-as, write-back}
 use Rattle.demand3.proofs.Replies.{kind-none}
 use Rattle.checks.proofs.Rows.{TablePassed}

@@ -1,4 +1,6 @@
--- A 144 that is sound by its octets and the ledger passes the table: one Target with one circuit id is no fault, and nothing is missing.
+-- A message that is sound by its octets and the ledger passes the table: one Target with one circuit id is no fault, and nothing is missing.
+--     reached-below, reached-up, reached      a 144 that reaches an Add
+--     flows-queried                           a Multicast Flow Query (149)
 -- Assumes nothing.
 use Prim.Native.Nat.{ℕ, suc, _+_, _≤_, _<_}
 use mathlib.Core.Path.{_≡_, refl, sym, ap, subst, _∙_}
@@ -22,10 +24,12 @@ use Rattle.checks.specs.declared.Verdict.the-variants.{Refused, Passed}
 use Rattle.checks.specs.Named.{beside, needed, missing, singleOf, fromFault}
 use Rattle.checks.specs.Table.{handled, resultOk, idIn, located, faults, namedRows, tableOf}
 use Rattle.control.specs.Control.{controlled}
+use Rattle.queries.specs.Queries.{flowQuery}
 use Rattle.messages.specs.Messages.{isAnswer, isNotice, byType, requested, byResult, byHead, receivedOf}
 use Rattle.demand3.specs.Calls.{Tables}
-use Rattle.demand3.specs.Ledger.{Line, Ledger, kindIn, resultIn, tlvsIn, portIn, actsAll}
-use Rattle.demand3.specs.Claim.{Reaches}
+use Rattle.demand3.specs.Reads.{kindIn, resultIn, tlvsIn, portIn}
+use Rattle.demand3.specs.Ledger.{Line, Ledger, actsAll}
+use Rattle.demand3.specs.Claim.{Sound, Reaches}
 use Rattle.demand3.proofs.Agree.{Agree, write-same}
 use Rattle.demand3.proofs.Command.{all-up}
 use Rattle.demand3.proofs.Views.{port-below}
@@ -57,69 +61,110 @@ no-fault other (i ∷ is) n c = go (eqb (i .kind) 0x1000) n c (no-more true othe
     go true n c rest ih = rw (eq-eqb (circuitIds (i .content)) 1 c) (rest (omega arith))
     go false n c rest ih = ih n c
 
--- ---- a 144 that passes the table is carried out
-module _ (ids channels : List ℕ) (card : Card) (h : Header) (s : List ℕ) (p : ℕ) (kind : h .kind ≡ 144) where
-  carried-out : isAnswer (h .result) ≡ false → eqb (h .result) 0 ≡ false → tableOf ids card h s ≡ Passed p
-      → byResult ids channels card h s ≡ controlled ids channels card h p s
-  unfolding byResult isNotice requested byType
-  carried-out n z v =
-      let is : eqb (h .kind) 144 ≡ true = eq-eqb (h .kind) 144 kind in
-      sym (left (eqb (h .kind) 147) _ _ (ne-eqb (h .kind) 147 (λ e. omega arith)))
+-- ---- past the table
+module _ (ids channels : List ℕ) (card : Card) (h : Header) (s : List ℕ) (p : ℕ) where
+  carried-out : (h .kind ≡ 147 → ⊥) → isAnswer (h .result) ≡ false → isNotice h ≡ false → tableOf ids card h s ≡ Passed p
+      → byResult ids channels card h s ≡ byType ids channels card h s p
+  unfolding byResult requested
+  carried-out other n z v =
+      sym (left (eqb (h .kind) 147) _ _ (ne-eqb (h .kind) 147 other))
       ∙ sym (left (isAnswer (h .result)) _ _ n)
-      ∙ sym (left (eqb (h .kind) 144 && eqb (h .result) 0) _ _ (ap (λ (b : Bool). b && eqb (h .result) 0) is ∙ z))
+      ∙ sym (left (isNotice h) _ _ z)
       ∙ ap (requested ids channels card h s) v
-      ∙ sym (taken (eqb (h .kind) 144) _ _ is)
+
+-- ---- a sound message
+module _ (t : Tables) (card : Card) (l : Ledger) (a : Agree t card l) (m : List ℕ) (kind p : ℕ) (r : Sound t m kind p) where
+  abbrev s : List ℕ
+  s = drop 16 m
+
+  pub sound-below : (p < t .ports) × (p < 64)
+  unfolding portIn
+  sound-below = port-below (t .ids) (t .ports) (idIn s) (r .port)
+
+  some-target : countOf 0x1000 (itemsOf s) ≡ 0 → ⊥
+  unfolding tlvsIn
+  some-target e = omega (arith, r .target)
+
+  module _ (up : l p .isUp ≡ true) where
+    located-there : located card (portOf (t .ids) (card .«port_count») (idIn s)) ≡ Passed p
+    unfolding located portIn
+    located-there =
+        ap (λ (n : ℕ). located card (portOf (t .ids) n (idIn s))) (a .ports)
+        ∙ ap (located card) (r .port)
+        ∙ ap (λ (b : Bool). cond b (Passed p) (Refused 0x6)) (a .at p (sound-below .1) .is-up ∙ up)
+
+    module _ (single : singleOf kind ≡ 0x1000) (complete : length (missing (needed kind) (itemsOf s)) ≡ 0) where
+      none-faulty : length (faults kind s) ≡ 0
+      unfolding tlvsIn
+      none-faulty =
+          ap (λ (n : ℕ). length (fromFault n false false (itemsOf s))) single ∙ ap length (no-fault false (itemsOf s) (r .target) (r .circuit))
+
+      passed : handled kind ≡ true → resultOk kind (resultIn m) ≡ true → depthOf (resultIn m) ≡ 3 → tableOf (t .ids) card (headerIn m) s ≡ Passed p
+      unfolding tableOf namedRows kindIn resultIn
+      passed known ok depth =
+          rw (r .is-kind)
+          (rw (
+            known,
+            ok,
+            depth,
+            r .lengths,
+            eq-eqb (length (missing (needed kind) (itemsOf s))) 0 complete,
+            eq-eqb (length (faults kind s)) 0 none-faulty,
+          ) located-there)
+
+      -- with the right Result, and with all that it needs, it is carried out
+      pub sound-comes : handled kind ≡ true → resultOk kind (resultIn m) ≡ true → depthOf (resultIn m) ≡ 3
+          → (kind ≡ 147 → ⊥) → isAnswer (resultIn m) ≡ false → (eqb kind 144 && eqb (resultIn m) 0) ≡ false → (room : ℕ) → 4608 ≤ room
+          → receivedOf (t .ids) (t .channels) card m room ≡ byType (t .ids) (t .channels) card (headerIn m) s p
+      unfolding receivedOf headIn byHead kindIn resultIn isNotice
+      sound-comes known ok depth other n z room k =
+          rw (le-ltb room 4608 k, r .size, r .header)
+          (carried-out (t .ids) (t .channels) card (headerIn m) s p (λ e. other (sym (r .is-kind) ∙ e)) n
+          (ap (λ (j : ℕ). eqb j 144 && eqb (headerIn m .result) 0) (r .is-kind) ∙ z) (passed known ok depth))
 
 -- ---- what a message that reaches an Add comes to
 module _ (t : Tables) (card : Card) (l : Ledger) (a : Agree t card l) (m : List ℕ) (p : ℕ) (f : Flow) (before after : List (List ℕ))
     (r : Reaches t l m p f before after) where
   pub reached-below : (p < t .ports) × (p < 64)
-  unfolding portIn
-  reached-below = port-below (t .ids) (t .ports) (idIn (drop 16 m)) (r .port)
+  reached-below = sound-below t card l a m 144 p (r .sound)
 
   pub reached-up : l p .isUp ≡ true
   reached-up =
       sym (all-up t (l p) before) ∙ ap (λ (x : Line). x .isUp) (sym (write-same l p (actsAll t (l p) before))) ∙ r .wanted .is-up
 
-  abbrev s : List ℕ
-  s = drop 16 m
-
   -- Result 1 or 2
   result-by : (C : ℕ → Type 0) → C 1 → C 2 → C (resultIn m)
   result-by C x y = ⊎-elim (λ (e : resultIn m ≡ 1). subst C (sym e) x) (λ (e : resultIn m ≡ 2). subst C (sym e) y) (r .result)
 
-  none-missing : length (missing (needed 144) (itemsOf s)) ≡ 0
-  unfolding missing beside countOf tlvsIn
+  none-missing : length (missing (needed 144) (itemsOf (drop 16 m))) ≡ 0
+  unfolding missing beside countOf
   none-missing =
-      let n : length (ofType 0x0011 (itemsOf s)) ≡ length before + suc (length after) = ap length (r .commands) ∙ length-append before (r .here ∷ after) in
-      rw (ne-eqb (length (ofType 0x1000 (itemsOf s))) 0 (λ e. omega (arith, r .target)), ne-eqb (length (ofType 0x0011 (itemsOf s))) 0 (λ e. omega arith))
+      let is : List Item = itemsOf (drop 16 m) in
+      let n : length (ofType 0x0011 is) ≡ length before + suc (length after) = ap length (r .commands) ∙ length-append before (r .here ∷ after) in
+      rw (ne-eqb (length (ofType 0x1000 is)) 0 (some-target t card l a m 144 p (r .sound)), ne-eqb (length (ofType 0x0011 is)) 0 (λ e. omega arith))
 
-  none-faulty : length (faults 144 s) ≡ 0
-  unfolding singleOf tlvsIn
-  none-faulty = ap length (no-fault false (itemsOf s) (r .target) (r .circuit))
-
-  located-there : located card (portOf (t .ids) (card .«port_count») (idIn s)) ≡ Passed p
-  unfolding located portIn
-  located-there =
-      ap (λ (n : ℕ). located card (portOf (t .ids) n (idIn s))) (a .ports)
-      ∙ ap (located card) (r .port)
-      ∙ ap (λ (b : Bool). cond b (Passed p) (Refused 0x6)) (a .at p (reached-below .1) .is-up ∙ reached-up)
-
-  passed : tableOf (t .ids) card (headerIn m) s ≡ Passed p
-  unfolding tableOf handled resultOk namedRows kindIn resultIn
-  passed =
-      rw (r .kind)
-      (rw (
-        result-by (λ n. (eqb n 1 || eqb n 2) ≡ true) refl refl,
-        result-by (λ n. depthOf n ≡ 3) refl refl,
-        r .sound,
-        eq-eqb (length (missing (needed 144) (itemsOf s))) 0 none-missing,
-        eq-eqb (length (faults 144 s)) 0 none-faulty,
-      ) located-there)
-
-  pub reached : (room : ℕ) → 4608 ≤ room → receivedOf (t .ids) (t .channels) card m room ≡ controlled (t .ids) (t .channels) card (headerIn m) p s
-  unfolding receivedOf headIn byHead kindIn resultIn isAnswer
+  pub reached : (room : ℕ) → 4608 ≤ room → receivedOf (t .ids) (t .channels) card m room ≡ controlled (t .ids) (t .channels) card (headerIn m) p (drop 16 m)
+  unfolding singleOf handled resultOk isAnswer byType kindIn
   reached room k =
-      rw (le-ltb room 4608 k, r .size, r .header)
-      (carried-out (t .ids) (t .channels) card (headerIn m) s p (r .kind) (result-by (λ n. isAnswer n ≡ false) refl refl)
-      (result-by (λ n. eqb n 0 ≡ false) refl refl) passed)
+      sound-comes t card l a m 144 p (r .sound) reached-up refl none-missing refl (result-by (λ n. (eqb n 1 || eqb n 2) ≡ true) refl refl)
+      (result-by (λ n. depthOf n ≡ 3) refl refl) (λ e. omega arith) (result-by (λ n. isAnswer n ≡ false) refl refl)
+      (result-by (λ n. eqb n 0 ≡ false) refl refl) room k
+      ∙ sym (taken (eqb (headerIn m .kind) 144) _ _ (eq-eqb (headerIn m .kind) 144 (r .sound .is-kind)))
+
+-- ---- what a Multicast Flow Query comes to
+module _ (t : Tables) (card : Card) (l : Ledger) (a : Agree t card l) (m : List ℕ) (p : ℕ) (r : Sound t m 149 p) (two : resultIn m ≡ 2)
+    (up : l p .isUp ≡ true) where
+  none-missing-149 : length (missing (needed 149) (itemsOf (drop 16 m))) ≡ 0
+  unfolding missing beside
+  none-missing-149 = rw (ne-eqb (countOf 0x1000 (itemsOf (drop 16 m))) 0 (some-target t card l a m 149 p r))
+
+  pub flows-queried : (room : ℕ) → 4608 ≤ room → receivedOf (t .ids) (t .channels) card m room ≡ flowQuery (t .ids) (t .channels) card (headerIn m) p
+  unfolding singleOf handled resultOk isAnswer byType kindIn
+  flows-queried room k =
+      let by : (C : ℕ → Type 0) → C 2 → C (resultIn m) = λ C x. subst C (sym two) x in
+      let other : (n : ℕ) → (149 ≡ n → ⊥) → eqb (headerIn m .kind) n ≡ false = λ n d. ne-eqb (headerIn m .kind) n (λ e. d (sym (r .is-kind) ∙ e)) in
+      sound-comes t card l a m 149 p r up refl none-missing-149 refl (by (λ n. eqb n 2 ≡ true) refl) (by (λ n. depthOf n ≡ 3) refl)
+      (λ e. omega arith) (by (λ n. isAnswer n ≡ false) refl) refl room k
+      ∙ sym (left (eqb (headerIn m .kind) 144) _ _ (other 144 (λ e. omega arith)))
+      ∙ sym (left (eqb (headerIn m .kind) 146) _ _ (other 146 (λ e. omega arith)))
+      ∙ sym (left (eqb (headerIn m .kind) 148) _ _ (other 148 (λ e. omega arith)))

@@ -26,7 +26,7 @@ use Rattle.readback.proofs.Tlv.{items-none, items-back}
 use Rattle.readback.proofs.Message.{message-back}
 use Rattle.readback.proofs.Fields.{read-back}
 use Rattle.demand3.specs.Calls.{Tables}
-use Rattle.demand3.specs.Ledger.{kindIn, resultIn, tlvsIn, portIn, amountIn, enclosedIn}
+use Rattle.demand3.specs.Reads.{kindIn, resultIn, tlvsIn, portIn, amountIn, enclosedIn}
 use Rattle.demand3.proofs.Agree.{TablesTaken}
 
 -- ---- type and Result, whatever the transaction

@@ -1,9 +1,9 @@
 -- Held flows as rows of the channel table.
 --     listed-by, listed-at, unlisted-at      a listed flow has a row
---     row-is, row-same, rate-row             its row and the row's rate; rows are the same where the flows are
+--     row-is, row-same, row-flow, rate-row   its row, the row's flow and rate; rows are the same where the flows are
 --     length-sum, holds-sum, charges-sum     figures of a list of held flows as sums over it
 --     unlisted-held                          a flow that is not listed is not held
---     without-sum, without-holds, without-listed, without-once, without-charges      those held but one flow
+--     without-sum, without-holds, without-listed, without-once, without-few, without-charges      those held but one flow
 -- Assumes nothing.
 use Prim.Native.Nat.{ℕ, _+_, _≤_}
 use mathlib.Core.Path.{_≡_, refl, sym, ap, ap₂, _∙_}
@@ -26,7 +26,8 @@ use Rattle.channels.proofs.Channels.{channel-found}
 use Rattle.sums.specs.Sums.{sumBy}
 use Rattle.demand3.specs.Calls.{Tables}
 use Rattle.demand3.specs.Ledger.{Held, Line, holds, without, withFlows}
-use Rattle.demand3.specs.Claim.{listed, rateBy, rateOf, charges, Once}
+use Rattle.demand3.specs.Reads.{listed, rateBy, rateOf}
+use Rattle.demand3.specs.Claim.{charges, Once}
 
 -- the row of a flow's channel; 256, which is no row, where it is not listed
 unfoldable pub rowBy : Found → ℕ
@@ -85,6 +86,9 @@ module _ (t : Tables) where
     pub row-is : {k : ℕ} → found f ≡ At k → rowOf t f ≡ k
     unfolding rowOf rowBy
     row-is e = ap rowBy e
+
+    pub row-flow : listed t f ≡ true → channelAt (t .channels) (rowOf t f) ≡ f
+    row-flow h = listed-by h (λ k e. ap (channelAt (t .channels)) (row-is e) ∙ channel-found (t .channels) (t .channelCount) f e .is)
 
     pub rate-is : {k : ℕ} → found f ≡ At k → rateOf t f ≡ rateAt (t .channels) k
     unfolding rateOf rateBy
@@ -182,6 +186,15 @@ module _ (t : Tables) where
         go : Once (without f hs) → (b : Bool) → Once (cond b (without f hs) (h ∷ without f hs))
         go ih true = ih
         go ih false = (without-holds (h .flow) hs (a .0), ih)
+
+    pub without-few : (hs : List Held) → length (without f hs) ≤ length hs
+    unfolding without
+    without-few [] = omega arith
+    without-few (h ∷ hs) = go (sameFlow (h .flow) f) (without-few hs)
+      where
+        go : (b : Bool) → length (without f hs) ≤ length hs → length (cond b (without f hs) (h ∷ without f hs)) ≤ length (h ∷ hs)
+        go true ih = omega arith
+        go false ih = omega arith
 
     pub without-charges : (x : Line) → charges t (withFlows x (without f (x .flows))) ≤ charges t x
     unfolding charges without sumBy

@@ -9,7 +9,7 @@ use mathlib.Core.Path.{_≡_, refl, sym, ap, subst, _∙_}
 use mathlib.Core.Bool.{Bool, true, false}
 use mathlib.Core.List.{List, []}
 use native.Mathlib.Omega.{arith}
-use lib.ListN.{length-set}
+use lib.ListN.{length, length-set}
 use lib.Seq.{getD-set-same, getD-set-other}
 use Rattle.ports.specs.declared.Port.{Port}
 use Rattle.ports.specs.declared.Counter.{Counter}
@@ -36,6 +36,7 @@ pub record PoolStep (t : Tables) (old new : Pool) (p : ℕ) (x : Line) (hs : Lis
   pub flows : (w : ℕ → Bool → ℕ) → poolSum new p w ≡ flowSum t w hs
   pub rows : AllListed t hs
   pub once : Once hs
+  pub few : length hs ≤ 16
   pub bounded : charges t (withFlows x hs) ≤ x .delegation
   pub idle : x .isUp ≡ false → hs ≡ []
 
@@ -65,6 +66,7 @@ carried t old new x q same sums b =
       flows = λ w. sums w ∙ b .flows w;
       rows = b .rows;
       once = b .once;
+      few = b .few;
       bounded = b .bounded;
       idle = b .idle;
       asks-more = subst AsksMore same (b .asks-more);
@@ -113,6 +115,7 @@ module _ (t : Tables) (card : Card) (l : Ledger) (a : Agree t card l) where
                 flows = s .flows;
                 rows = s .rows;
                 once = s .once;
+                few = s .few;
                 bounded = s .bounded;
                 idle = s .idle;
                 asks-more = b .asks-more;
@@ -148,6 +151,7 @@ module _ (t : Tables) (card : Card) (l : Ledger) (a : Agree t card l) where
                 flows = b .flows;
                 rows = b .rows;
                 once = b .once;
+                few = b .few;
                 bounded = s .bounded;
                 idle = s .idle;
                 asks-more = subst AsksMore (sym (port-set y)) (s .asks-more);

@@ -29,7 +29,8 @@ use Rattle.transfers.specs.Transfers.{reducedTo, transferFails, transferGives, 
 use Rattle.messages.specs.Messages.{receivedOf}
 use Rattle.demand3.specs.Calls.{Tables, outcomeOf}
 use Rattle.demand3.specs.Calls.Call.{message}
-use Rattle.demand3.specs.Ledger.{Ledger, kindIn, portIn}
+use Rattle.demand3.specs.Reads.{kindIn, portIn}
+use Rattle.demand3.specs.Ledger.{Ledger}
 use Rattle.demand3.specs.Corollaries.{TakesNone}
 use Rattle.demand3.proofs.Agree.{Agree, TablesTaken}
 use Rattle.demand3.proofs.Replies.{kind-none, kind-refusal, port-back}

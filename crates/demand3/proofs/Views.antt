@@ -31,7 +31,7 @@ use Rattle.transfers.specs.Transfers.{reallocated, transferred}
 use Rattle.queries.specs.Queries.{delegationQuery, flowQuery}
 use Rattle.listing.specs.Listing.{rowsInOrder}
 use Rattle.messages.specs.Messages.{isAnswer, isNotice, byType, requested, refusedNumber, offered, byResult, byHead, receivedOf}
-use Rattle.demand3.specs.Ledger.{kindIn}
+use Rattle.demand3.specs.Reads.{kindIn}
 use Rattle.demand3.proofs.Replies.{kind-amount, kind-flows}
 
 -- a port that is found is one of them, and below 64

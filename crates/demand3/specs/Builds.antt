@@ -13,7 +13,7 @@ use Rattle.commands.specs.Commands.{ranOf}
 use Rattle.control.specs.Control.{commandsIn}
 use Rattle.demand3.specs.Calls.{Tables, Call, Build, ours, outcomeOf}
 use Rattle.demand3.specs.Calls.Call.{portUp, portDown, setDelegation, join, leave, ask, message}
-use Rattle.demand3.specs.Ledger.{kindIn, portIn}
+use Rattle.demand3.specs.Reads.{kindIn, portIn}
 use Rattle.demand3.specs.Claim.{Claim}
 
 -- our build with other calls
@@ -26,6 +26,7 @@ calling outcome =
       delegation = ours .delegation;
       committed = ours .committed;
       active = ours .active;
+      flows = ours .flows;
     }
 
 -- refuses every join, as if it were black
@@ -78,6 +79,20 @@ inventing =
       delegation = ours .delegation;
       committed = λ t card p. 0;
       active = ours .active;
+      flows = ours .flows;
+    }
+
+-- leaves a flow out of a port's list
+abbrev pub forgetful : Build
+forgetful =
+    record {
+      start = ours .start;
+      outcome = ours .outcome;
+      isUp = ours .isUp;
+      delegation = ours .delegation;
+      committed = ours .committed;
+      active = ours .active;
+      flows = λ t card p. drop 1 (ours .flows t card p);
     }
 
 -- refuses every message as unusable
@@ -97,3 +112,4 @@ pub record Worthless : Type 0 where
   pub runs-command-1 : Claim (calling firstOnly) → ⊥
   pub refuses-every-message : Claim (calling deaf) → ⊥
   pub invents-committed : Claim inventing → ⊥
+  pub leaves-out-a-flow : Claim forgetful → ⊥

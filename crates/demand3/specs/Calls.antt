@@ -1,8 +1,9 @@
 -- A host's calls, the builds that answer them, and lists of calls. Assumes nothing: these are definitions.
 use Prim.Native.Nat.{ℕ}
 use mathlib.Core.Bool.{Bool}
-use mathlib.Core.List.{List, [], _∷_}
+use mathlib.Core.List.{List, [], _∷_, map}
 use Rattle.flows.specs.declared.Flow.{Flow}
+use Rattle.channels.specs.Channels.{channelAt}
 use Rattle.card.specs.declared.Card.{Card}
 use Rattle.card.specs.declared.Started.{Started}
 use Rattle.card.specs.Outcome.{Outcome}
@@ -11,7 +12,7 @@ use Rattle.card.specs.Start.{startOf}
 use Rattle.card.specs.Figures.{upOf, delegationOf, committedAt}
 use Rattle.joins.specs.Joins.{joinOf}
 use Rattle.joins.specs.Asks.{askOf}
-use Rattle.listing.specs.Listing.{activeAt}
+use Rattle.listing.specs.Listing.{flowsAt, activeAt}
 use Rattle.messages.specs.Messages.{receivedOf}
 
 -- what start is given beside the first transaction number: the tables with their counts, and the two switches
@@ -35,7 +36,7 @@ pub data Call : Type 0 where
   ask : (p required preferred room : ℕ) → Call
   message : (octets : List ℕ) (room : ℕ) → Call
 
--- what a host has of a card: its start, its calls, and the figures that it reads
+-- what a host has of a card: its start, its calls, and the figures and the list of a port's flows that it reads
 pub record Build : Type 0 where
   pub start : Tables → ℕ → Started
   pub outcome : Tables → Card → Call → Outcome
@@ -43,6 +44,7 @@ pub record Build : Type 0 where
   pub delegation : Card → ℕ → ℕ
   pub committed : Tables → Card → ℕ → ℕ
   pub active : Tables → Card → ℕ → Flow → Bool
+  pub flows : Tables → Card → ℕ → List Flow
 
 -- what each of our calls is proved to come to
 unfoldable pub outcomeOf : Tables → Card → Call → Outcome
@@ -58,7 +60,7 @@ unfoldable pub startedOf : Tables → ℕ → Started
 startedOf t first =
     startOf (t .ids) (t .ports) (t .channels) (t .channelCount) (t .entries) (t .entryCount) (t .whiteCac) (t .addCac) first
 
--- our build: the definitions that the public functions are proved to return
+-- our build: the definitions that the public functions are proved to return; a listed row of the channel table stands for its flow
 abbrev pub ours : Build
 ours =
     record {
@@ -68,6 +70,7 @@ ours =
       delegation = delegationOf;
       committed = λ t. committedAt (t .channels);
       active = λ t. activeAt (t .channels);
+      flows = λ t card p. map (channelAt (t .channels)) (flowsAt (t .channels) card p);
     }
 
 -- a list of calls, each of which gets the card as the last one left it

@@ -1,44 +1,24 @@
 -- Demand 3 as one claim about any list of calls from any start that is taken. Assumes nothing: these are definitions.
 use Prim.Native.Nat.{ℕ, suc, _+_, _-_, _≤_, _<_}
 use mathlib.Core.Path.{_≡_}
-use mathlib.Core.Bool.{Bool, true, false, cond, not}
+use mathlib.Core.Bool.{Bool, true, false, cond}
 use mathlib.Core.List.{List, [], _∷_, _++_}
 use mathlib.Core.Logic.{_⊎_, _↔_}
 use lib.ListN.{length, drop}
 use Rattle.flows.specs.declared.Flow.{Flow}
+use Rattle.flows.specs.Flows.{sameFlow, flowBefore}
 use Rattle.header.specs.Header.{sizeOk, usable}
 use Rattle.tlv.specs.Depth.{listOk}
 use Rattle.items.specs.Items.{countOf, firstOf}
 use Rattle.fields.specs.Fields.{circuitIds}
-use Rattle.rows.specs.declared.Found.{Found}
-use Rattle.rows.specs.declared.Found.the-variants.{At, Nothing}
-use Rattle.rows.specs.Rows.{isNothing}
-use Rattle.channels.specs.Channels.{channelOf, rateAt}
-use Rattle.lists.specs.declared.Decision.the-variants.{White}
-use Rattle.lists.specs.Lists.{listDecision}
 use Rattle.tables.specs.Tables.{tablesOk}
 use Rattle.sums.specs.Sums.{sumTo, sumBy}
 use Rattle.card.specs.declared.Card.{Card}
 use Rattle.card.specs.Outcome.{Outcome}
-use Rattle.commands.specs.Orders.{Order, orderOf}
-use Rattle.commands.specs.Orders.Order.{ill, add, delete, deleteAll}
-use Rattle.control.specs.Control.{commandsIn}
+use Rattle.demand3.specs.Reads.{At, Order, ill, add, delete, deleteAll, orderOf, commandsIn, kindIn, resultIn, tlvsIn, portIn, listed, rateOf, isWhite}
 use Rattle.demand3.specs.Calls.{Tables, Call, Build, cardAfter, history}
 use Rattle.demand3.specs.Calls.Call.{join, message}
-use Rattle.demand3.specs.Ledger.{Held, Line, Ledger, write, holds, kindIn, resultIn, tlvsIn, portIn, actedIn, acts, actsAll, ledgerOf}
-
--- ---- figures in the ledger's terms
-
--- the channel of a flow, if it is listed, and its rate
-unfoldable pub listed : Tables → Flow → Bool
-listed t f = not (isNothing (channelOf (t .channels) (t .channelCount) f))
-
-unfoldable pub rateBy : Tables → Found → ℕ
-rateBy t (At k) = rateAt (t .channels) k
-rateBy t Nothing = 0
-
-unfoldable pub rateOf : Tables → Flow → ℕ
-rateOf t f = rateBy t (channelOf (t .channels) (t .channelCount) f)
+use Rattle.demand3.specs.Ledger.{Held, Line, Ledger, write, holds, actedIn, acts, actsAll, opened, ledgerFrom}
 
 -- the sum of the rates of the flows that a line charges
 unfoldable pub charges : Tables → Line → ℕ
@@ -53,8 +33,17 @@ unfoldable pub Once : List Held → Type 0
 Once [] = Unit {0}
 Once (h ∷ hs) = (holds (h .flow) hs ≡ false) × Once hs
 
--- ---- the rule
+-- how often a flow stands in a list
+unfoldable pub timesIn : Flow → List Flow → ℕ
+timesIn f fs = sumBy (λ g. cond (sameFlow g f) 1 0) fs
 
+-- each goes before the next, by family, group, source (none first)
+unfoldable pub InOrder : List Flow → Type 0
+InOrder [] = Unit {0}
+InOrder (f ∷ []) = Unit {0}
+InOrder (f ∷ g ∷ fs) = (flowBefore f g ≡ true) × InOrder (g ∷ fs)
+
+-- ---- the rule
 -- "under 4 active flows, or under 16 while all ports together use under 256 beyond their fours"
 abbrev pub Room : ℕ → ℕ → Type 0
 Room n e = (n < 4) ⊎ ((n < 16) × (e < 256))
@@ -72,7 +61,6 @@ pub record Wanted (t : Tables) (l : Ledger) (p : ℕ) (f : Flow) : Type 0 where
   pub idle : holds f (l p .flows) ≡ false
 
 -- ---- an Add that is reached, told by the message and the ledger alone
-
 -- a command succeeds
 unfoldable pub Succeeds : Tables → Ledger → ℕ → Order → Type 0
 Succeeds t l p (ill code) = ⊥
@@ -89,17 +77,20 @@ AllSucceed t l p x (c ∷ cs) = Succeeds t (write l p x) p (orderOf c) × AllSuc
 abbrev pub behind : Tables → Ledger → ℕ → List (List ℕ) → Ledger
 behind t l p cs = write l p (actsAll t (l p) cs)
 
--- m is a 144 for port p, sound and with Result 1 or 2, whose commands are `before`, all of which succeed, then a well-formed Add of
--- f, then `after`
-pub record Reaches (t : Tables) (l : Ledger) (m : List ℕ) (p : ℕ) (f : Flow) (before after : List (List ℕ)) : Type 0 where
+-- m is a request of this type for port p: usable, its lengths and depth sound, with one Target that has one circuit id
+pub record Sound (t : Tables) (m : List ℕ) (kind p : ℕ) : Type 0 where
   pub size : sizeOk m ≡ true
   pub header : usable m ≡ true
-  pub kind : kindIn m ≡ 144
-  pub result : (resultIn m ≡ 1) ⊎ (resultIn m ≡ 2)
-  pub sound : listOk 3 false (drop 16 m) ≡ true
+  pub is-kind : kindIn m ≡ kind
+  pub lengths : listOk 3 false (drop 16 m) ≡ true
   pub target : countOf 0x1000 (tlvsIn m) ≡ 1
   pub circuit : circuitIds (firstOf 0x1000 (tlvsIn m)) ≡ 1
   pub port : portIn t m ≡ At p
+
+-- a sound 144 with Result 1 or 2, whose commands are `before`, all of which succeed, then a well-formed Add of f, then `after`
+pub record Reaches (t : Tables) (l : Ledger) (m : List ℕ) (p : ℕ) (f : Flow) (before after : List (List ℕ)) : Type 0 where
+  pub sound : Sound t m 144 p
+  pub result : (resultIn m ≡ 1) ⊎ (resultIn m ≡ 2)
   pub here : List ℕ
   pub commands : commandsIn (drop 16 m) ≡ before ++ here ∷ after
   pub accounting : ℕ
@@ -112,7 +103,6 @@ abbrev pub Acted : Outcome → List ℕ → ℕ → Type 0
 Acted o m n = (o .number ≡ 0) × (n ≤ length (actedIn (o .reply) (commandsIn (drop 16 m))))
 
 -- ---- the claim
-
 -- at a card and its ledger, after any list of calls
 pub record Demand3 (b : Build) (t : Tables) (card : Card) (l : Ledger) : Type 0 where
   -- the figures that a host reads are the ledger's
@@ -121,14 +111,17 @@ pub record Demand3 (b : Build) (t : Tables) (card : Card) (l : Ledger) : Type 0 
   pub active : (p : ℕ) (f : Flow) → p < t .ports → b .active t card p f ≡ holds f (l p .flows)
   pub committed : (p : ℕ) → p < t .ports → b .committed t card p ≡ charges t (l p)
   pub once : (p : ℕ) → p < t .ports → Once (l p .flows)
+  -- the list of flows that it reads has each flow of the line once and no other, as many in all, in order
+  pub flows : (p : ℕ) (f : Flow) → p < t .ports → timesIn f (b .flows t card p) ≡ cond (holds f (l p .flows)) 1 0
+  pub count : (p : ℕ) → p < t .ports → length (b .flows t card p) ≡ length (l p .flows)
+  pub order : (p : ℕ) → p < t .ports → InOrder (b .flows t card p)
   -- and the committed amount never passes the delegation
   pub bounded : (p : ℕ) → p < t .ports → charges t (l p) ≤ l p .delegation
   -- a white-listed join starts exactly when the rule says so
-  pub joins : (p : ℕ) (f : Flow) (room : ℕ) → Wanted t l p f → listDecision (t .entries) (t .entryCount) f ≡ White → 4608 ≤ room
+  pub joins : (p : ℕ) (f : Flow) (room : ℕ) → Wanted t l p f → isWhite t f → 4608 ≤ room
       → ((b .outcome t card (join p f room) .number ≡ 0) ↔ Starts t (t .whiteCac) l p f)
       × ((b .active t (b .outcome t card (join p f room) .card) p f ≡ true) ↔ Starts t (t .whiteCac) l p f)
-  -- and so does an Add that is reached, wherever it stands and whatever follows it: it acts, and as the last command leaves the
-  -- flow active
+  -- and so does an Add that is reached, whatever follows it: it acts, and as the last command leaves the flow active
   pub adds : (m : List ℕ) (room p : ℕ) (f : Flow) (before after : List (List ℕ)) → Reaches t l m p f before after → 4608 ≤ room
       → Acted (b .outcome t card (message m room)) m (suc (length before)) ↔ Starts t (t .addCac) (behind t l p before) p f
   pub last-add : (m : List ℕ) (room p : ℕ) (f : Flow) (before : List (List ℕ)) → Reaches t l m p f before [] → 4608 ≤ room
@@ -143,4 +136,4 @@ pub record Claim (b : Build) : Type 0 where
   pub starts : (t : Tables) (first : ℕ) → takes t ≡ true → 1 ≤ first → first ≤ 16777215 → b .start t first .number ≡ 0
   -- and from a start that is taken, demand 3 holds after every list of calls, refused ones included
   pub holds-after : (t : Tables) (first : ℕ) → b .start t first .number ≡ 0 → (calls : List Call)
-      → Demand3 b t (cardAfter b t (b .start t first .card) calls) (ledgerOf t (history b t (b .start t first .card) calls))
+      → Demand3 b t (cardAfter b t (b .start t first .card) calls) (ledgerFrom t opened (history b t (b .start t first .card) calls))

@@ -2,18 +2,23 @@
 -- with the claim.
 use Prim.Native.Nat.{ℕ, suc, _+_, _≤_, _<_}
 use mathlib.Core.Path.{_≡_}
-use mathlib.Core.List.{List, [], _∷_, _++_}
+use mathlib.Core.Bool.{true}
+use mathlib.Core.List.{List, [], _∷_, _++_, flatMap}
 use mathlib.Core.Logic.{_⊎_}
 use lib.ListN.{length}
 use Rattle.flows.specs.declared.Flow.{Flow}
+use Rattle.header.specs.Header.{headerIn, messageOf}
+use Rattle.writers.specs.Tlvs.{targetOf}
+use Rattle.replies.specs.Replies.{replyHeader}
+use Rattle.flow_octets.specs.FlowOctets.{flowTlv}
+use Rattle.circuits.specs.Circuits.{idAt}
 use Rattle.rows.specs.declared.Found.the-variants.{At}
-use Rattle.lists.specs.declared.Decision.the-variants.{White}
-use Rattle.lists.specs.Lists.{listDecision}
 use Rattle.card.specs.declared.Card.{Card}
 use Rattle.demand3.specs.Calls.{Tables, Call, ours, outcomeOf, startedOf, cardAfter, history}
 use Rattle.demand3.specs.Calls.Call.{portUp, portDown, setDelegation, join, leave, ask, message}
-use Rattle.demand3.specs.Ledger.{Ledger, kindIn, resultIn, portIn, ledgerOf}
-use Rattle.demand3.specs.Claim.{charges, rateOf, Wanted, Reaches, behind, Acted}
+use Rattle.demand3.specs.Reads.{kindIn, resultIn, portIn, rateOf, isWhite}
+use Rattle.demand3.specs.Ledger.{Ledger, opened, ledgerFrom}
+use Rattle.demand3.specs.Claim.{charges, Wanted, Sound, Reaches, behind, Acted}
 
 -- a call is about port p
 unfoldable pub Names : Tables → Call → ℕ → Type 0
@@ -34,7 +39,7 @@ abbrev pub cardOf : Tables → ℕ → List Call → Card
 cardOf t first calls = cardAfter ours t (startedOf t first .card) calls
 
 abbrev pub linesOf : Tables → ℕ → List Call → Ledger
-linesOf t first calls = ledgerOf t (history ours t (startedOf t first .card) calls)
+linesOf t first calls = ledgerFrom t opened (history ours t (startedOf t first .card) calls)
 
 -- the rate of f fits beside what port p's line charges
 abbrev pub Fits : Tables → Ledger → ℕ → Flow → Type 0
@@ -45,7 +50,7 @@ Fits t l p f = charges t (l p) + rateOf t f ≤ l p .delegation
 pub record FirstFour (t : Tables) (first : ℕ) (xs ys : List Call) (p : ℕ) : Type 0 where
   pub line : linesOf t first (xs ++ ys) p ≡ linesOf t first xs p
   pub join-starts : (f : Flow) (room : ℕ) → length (linesOf t first xs p .flows) < 4 → Fits t (linesOf t first xs) p f
-      → Wanted t (linesOf t first xs) p f → listDecision (t .entries) (t .entryCount) f ≡ White → 4608 ≤ room
+      → Wanted t (linesOf t first xs) p f → isWhite t f → 4608 ≤ room
       → outcomeOf t (cardOf t first (xs ++ ys)) (join p f room) .number ≡ 0
   pub add-starts : (m : List ℕ) (room : ℕ) (f : Flow) (before after : List (List ℕ)) → Reaches t (linesOf t first (xs ++ ys)) m p f before after
       → length (behind t (linesOf t first (xs ++ ys)) p before p .flows) < 4 → Fits t (behind t (linesOf t first (xs ++ ys)) p before) p f
@@ -77,6 +82,10 @@ NoneUntilAsked t card p = (ys : List Call) → NoneAsks ys p → TakesNone t (ca
 abbrev pub Moves : List ℕ → Type 0
 Moves m = (kindIn m ≡ 146) ⊎ ((kindIn m ≡ 147) × (resultIn m ≡ 3))
 
+-- the octets of Target and flows that answer a Multicast Flow Query (149) m for port p
+abbrev pub listReply : Tables → List ℕ → ℕ → List Flow → List ℕ
+listReply t m p fs = messageOf (replyHeader (headerIn m) 149 3 0) (targetOf (idAt (t .ids) p) ++ flatMap flowTlv fs)
+
 pub record Corollaries : Type 0 where
   pub first-four : (t : Tables) (first : ℕ) → startedOf t first .number ≡ 0 → (xs ys : List Call) (p : ℕ) → p < t .ports
       → NoneNames t ys p → FirstFour t first xs ys p
@@ -99,3 +108,7 @@ pub record Corollaries : Type 0 where
   pub delegation-kept : (t : Tables) (first : ℕ) → startedOf t first .number ≡ 0 → (xs : List Call) (x : Call) (p : ℕ) → p < t .ports
       → ((amount : ℕ) → x ≡ setDelegation p amount → ⊥) → ((m : List ℕ) (room : ℕ) → x ≡ message m room → Moves m → ⊥)
       → ours .delegation (outcomeOf t (cardOf t first xs) x .card) p ≡ ours .delegation (cardOf t first xs) p
+  -- a 149 for a port that is up is answered with the list of its flows, which the claim says are the ledger's
+  pub flows-answered : (t : Tables) (first : ℕ) → startedOf t first .number ≡ 0 → (xs : List Call) (m : List ℕ) (room p : ℕ) → Sound t m 149 p
+      → resultIn m ≡ 2 → linesOf t first xs p .isUp ≡ true → 4608 ≤ room
+      → outcomeOf t (cardOf t first xs) (message m room) .reply ≡ listReply t m p (ours .flows t (cardOf t first xs) p)

@@ -7,20 +7,11 @@ use lib.ListN.{take, drop}
 use lib.Dec.{eqb}
 use Rattle.flows.specs.declared.Flow.{Flow}
 use Rattle.flows.specs.Flows.{sameFlow}
-use Rattle.header.specs.Header.{headerIn}
-use Rattle.items.specs.Items.{Item, itemsOf, countOf, firstOf}
-use Rattle.fields.specs.Fields.{allocationIn, sequenceIn, statusTlvs}
-use Rattle.rows.specs.declared.Found.{Found}
-use Rattle.rows.specs.declared.Found.the-variants.{At, Nothing}
-use Rattle.circuits.specs.Circuits.{portOf}
-use Rattle.checks.specs.Table.{idIn}
-use Rattle.commands.specs.Orders.{Order, orderOf}
-use Rattle.commands.specs.Orders.Order.{ill, add, delete, deleteAll}
-use Rattle.control.specs.Control.{commandsIn}
+use Rattle.items.specs.Items.{countOf, firstOf}
+use Rattle.fields.specs.Fields.{sequenceIn}
+use Rattle.demand3.specs.Reads.{Found, At, Nothing, Order, ill, add, delete, deleteAll, orderOf, commandsIn, kindIn, resultIn, portIn, amountIn, enclosedIn}
 use Rattle.demand3.specs.Calls.{Tables, Call, Seen}
 use Rattle.demand3.specs.Calls.Call.{portUp, portDown, setDelegation, join, leave, ask, message}
-
--- ---- the ledger
 
 -- a flow, by its address, and whether it is charged
 pub record Held : Type 0 where
@@ -64,30 +55,7 @@ withDelegation x amount = record { isUp = x .isUp; delegation = amount; flows = 
 abbrev pub begins : Line → Flow → Bool → Line
 begins x f charged = withFlows x (record { flow = f; charged = charged } ∷ x .flows)
 
--- ---- what the ledger reads of a message or a reply
-
-unfoldable pub kindIn : List ℕ → ℕ
-kindIn m = headerIn m .kind
-
-unfoldable pub resultIn : List ℕ → ℕ
-resultIn m = headerIn m .result
-
--- its TLVs at top level
-unfoldable pub tlvsIn : List ℕ → List Item
-tlvsIn m = itemsOf (drop 16 m)
-
--- the port that its Target names
-unfoldable pub portIn : Tables → List ℕ → Found
-portIn t m = portOf (t .ids) (t .ports) (idIn (drop 16 m))
-
--- the amount of its Bandwidth-Allocation
-unfoldable pub amountIn : List ℕ → ℕ
-amountIn m = allocationIn (firstOf 0x0015 (tlvsIn m))
-
--- the TLVs directly inside its Status-Info
-unfoldable pub enclosedIn : List ℕ → List Item
-enclosedIn m = itemsOf (statusTlvs (firstOf 0x0106 (tlvsIn m)))
-
+-- ---- entries
 -- the commands of a 144 that acted: all of them, or under Failure (4) those before the one that the Sequence-Number directly inside
 -- its Status-Info names, none without one
 unfoldable pub actedIn : List ℕ → List (List ℕ) → List (List ℕ)
@@ -95,8 +63,6 @@ actedIn reply cs =
     cond (eqb (resultIn reply) 4)
     (cond (eqb (countOf 0x0022 (enclosedIn reply)) 0) [] (take (sequenceIn (firstOf 0x0022 (enclosedIn reply)) - 1) cs))
     cs
-
--- ---- entries
 
 -- a command that acts: "Add on inactive flows only"
 unfoldable pub acts : Tables → Line → Order → Line
@@ -137,10 +103,7 @@ entry t l (message m room) reply = messageEntry t l m reply
 unfoldable pub entered : Tables → Ledger → Seen → Ledger
 entered t l s = cond (eqb (s .number) 0) (entry t l (s .call) (s .reply)) l
 
+-- all that a host saw, entered in turn
 unfoldable pub ledgerFrom : Tables → Ledger → List Seen → Ledger
 ledgerFrom t l [] = l
 ledgerFrom t l (s ∷ ss) = ledgerFrom t (entered t l s) ss
-
--- the ledger of what a host saw since start
-abbrev pub ledgerOf : Tables → List Seen → Ledger
-ledgerOf t ss = ledgerFrom t opened ss

@@ -1,4 +1,5 @@
 pub mod Calls
+pub mod Reads
 pub mod Ledger
 pub mod Claim
 pub mod Builds

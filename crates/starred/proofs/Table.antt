@@ -34,7 +34,7 @@ use Rattle.checks.specs.Table.{handled, resultOk, idIn, located, namedRows, tab
 use Rattle.transfers.specs.Transfers.{reducedTo, transferFails, transferGives, reallocated}
 use Rattle.messages.specs.Messages.{isAnswer, isNotice, byType, requested, byResult, byHead, receivedOf}
 use Rattle.demand3.specs.Calls.{outcomeOf, startedOf}
-use Rattle.demand3.specs.Ledger.{tlvsIn, amountIn}
+use Rattle.demand3.specs.Reads.{tlvsIn, amountIn}
 use Rattle.starred.specs.Givens.{idRow, groupAt, channelsFrom, rates, tables, upWith, ownersFrom, channelsIn, poolOf, cardWith, many, committed3000, committed3500, crowded, flow, joins, asks, requests}
 use Rattle.starred.specs.Starred.{ofJoin, shownBy, shown, rows, Starred}
 

@@ -11,7 +11,7 @@ use Rattle.card.specs.declared.Card.{Card}
 use Rattle.card.specs.Outcome.{Outcome}
 use Rattle.demand3.specs.Calls.{Tables, Call, ours}
 use Rattle.demand3.specs.Calls.Call.{portUp, portDown, setDelegation, join, leave, ask, message}
-use Rattle.demand3.specs.Ledger.{amountIn}
+use Rattle.demand3.specs.Reads.{amountIn}
 use Rattle.starred.specs.Givens.{tables, committed3000, committed3500, crowded, joins, asks, requests}
 
 pub record Given : Type 0 where
