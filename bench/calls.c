@@ -20,7 +20,7 @@ static ancp_card fresh(bool add) {
     for (unsigned k = 0; k < 256; k++) { uint32_t *r = channels + k * 11; r[0] = 1; r[2] = 1; r[3] = nth(k).group[0]; }
     for (unsigned i = 0; i < 128; i++) { uint32_t *e = entries + i * 12; e[0] = 1; e[1] = 1; e[2] = i == 127 ? 4 : 32; e[4] = i == 127 ? 0xE0000000u : 0xEF000000u + i; }
     ancp_card c = ancp_card_started(ids, 64, channels, 256, entries, 128, true, add, 1).card;
-    for (size_t p = 0; p < 64; p++) { c = ancp_card_after_up(c, p).card; c = ancp_card_after_delegation(c, channels, p, 1000000).card; }
+    for (size_t p = 0; p < 64; p++) { ancp_card_port_up(&c, &tables, p); ancp_card_set_delegation(&c, &tables, p, 1000000); }
     return c;
 }
 
@@ -28,8 +28,10 @@ static ancp_card fresh(bool add) {
 static ancp_card filled(bool add) {
     ancp_card c = fresh(add);
     for (size_t p = 0; p < 64; p++)
-        for (unsigned k = 0; k < (p < 21 ? 16u : p == 21 ? 8u : p == 63 ? 3u : 4u); k++)
-            c = ancp_card_after_join(c, ids, channels, entries, p, nth(k), reply, sizeof reply).card;
+        for (unsigned k = 0; k < (p < 21 ? 16u : p == 21 ? 8u : p == 63 ? 3u : 4u); k++) {
+            ancp_flow f = nth(k);
+            ancp_card_join(&c, &tables, p, &f, reply, sizeof reply, NULL);
+        }
     return c;
 }
 
@@ -84,11 +86,11 @@ static void joins(void) {
     for (int i = 0; i < 2; i++) {
         int rounds = 20000, a = 0, b = 0;
         double t0 = now();
-        for (int r = 0; r < rounds; r++) a += ancp_card_after_join(c, ids, channels, entries, 63, *which[i], reply, sizeof reply).number;
+        for (int r = 0; r < rounds; r++) { d = c; a += ancp_card_join(&d, &tables, 63, which[i], reply, sizeof reply, NULL); }
         double t1 = now();
         for (int r = 0; r < rounds; r++) { d = c; b += plain_join(&d, 63, which[i]); }
         double t2 = now();
-        printf("join, %s channel, full pool: proved %.0f ns, plain C with the card copied once %.0f ns%s\n", i ? "last" : "fourth", (t1 - t0) / rounds, (t2 - t1) / rounds, a == b ? "" : " DIFFERENT");
+        printf("join, %s channel, full pool: proved %.0f ns, plain C %.0f ns, each with the card copied once for it%s\n", i ? "last" : "fourth", (t1 - t0) / rounds, (t2 - t1) / rounds, a == b ? "" : " DIFFERENT");
     }
 }
 
@@ -109,11 +111,12 @@ static size_t command(uint8_t *m, size_t n, unsigned code, ancp_flow f) {
 static size_t close16(uint8_t *m, size_t n) { put16(m, 2, (unsigned)(n - 4)); put16(m, 14, (unsigned)(n - 4)); return n; }
 
 static double measure(const char *what, const ancp_card *c, const uint8_t *m, size_t n) {
+    static ancp_card d;
     int rounds = 4000;
     unsigned answer = 0;
     size_t length = 0;
     double t0 = now();
-    for (int r = 0; r < rounds; r++) { ancp_after d = ancp_card_after_message(*c, ids, channels, m, n, reply, sizeof reply); answer = d.number; length = d.length; }
+    for (int r = 0; r < rounds; r++) { d = *c; answer = ancp_card_message(&d, &tables, m, n, reply, sizeof reply, &length); }
     double ns = (now() - t0) / rounds;
     printf("%-50s %8.0f ns   (answer %u, reply of %zu octets)\n", what, ns, answer, length);
     return ns;
@@ -176,18 +179,19 @@ static size_t used(size_t top) {
 static void *deep(void *unused) {
     static uint8_t m[4096];
     static ancp_card c;
-    static ancp_after d;
+    ancp_flow last = nth(255);
+    unsigned answer;
     (void)unused;
     c = filled(true);
     size_t n = target(m, head(m, 144, 2), 0);
     for (unsigned i = 0; i < 100; i++) n = command(m, n, i % 2 ? 1 : 2, nth(15));
     n = close16(m, command(m, n, 1, nth(200)));
     size_t top = paint();
-    d = ancp_card_after_message(c, ids, channels, m, n, reply, sizeof reply);
-    printf("stack of a message (144, 101 commands, answer %u): %zu octets\n", d.number, used(top));
+    answer = ancp_card_message(&c, &tables, m, n, reply, sizeof reply, NULL);
+    printf("stack of a message (144, 101 commands, answer %u): %zu octets\n", answer, used(top));
     top = paint();
-    d = ancp_card_after_join(c, ids, channels, entries, 63, nth(255), reply, sizeof reply);
-    printf("stack of a join (answer %u): %zu octets; a card has %zu\n", d.number, used(top), sizeof(ancp_card));
+    answer = ancp_card_join(&c, &tables, 63, &last, reply, sizeof reply, NULL);
+    printf("stack of a join (answer %u): %zu octets; a card has %zu\n", answer, used(top), sizeof(ancp_card));
     return NULL;
 }
 

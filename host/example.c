@@ -25,7 +25,7 @@ int main(int argc, char **argv) {
     ancp_set_channel(&tables, 0, &channel, 1000);
     ancp_set_entry(&tables, 0, ANCP_WHITE, &all, 4, 0);
     if (failed("start", ancp_card_start(&card, &tables, 1, 1, 1, true, true, 1))) return 1;
-    if (failed("port up", ancp_card_port_up(&card, 0))) return 1;
+    if (failed("port up", ancp_card_port_up(&card, &tables, 0))) return 1;
     if (failed("set delegation", ancp_card_set_delegation(&card, &tables, 0, 4000))) return 1;
     if (failed("join", ancp_card_join(&card, &tables, 0, &channel, reply, sizeof reply, &length))) return 1;
     printf("committed %llu of %u\n", (unsigned long long)ancp_card_committed(&card, &tables, 0), ancp_card_delegation(&card, 0));

@@ -1,11 +1,12 @@
 /* The access node's card of ANCP multicast control (RFC 6320, RFC 7256), for a host in C or C++.
 
-   The host keeps the card and the start's tables in its own memory. Its one duty: it hands each call the card as the last call left it, lends
-   the same tables that it gave to ancp_card_start, and lets nobody else write either. Everything else that is wrong gets its number.
+   The host keeps the card and the start's tables in its own memory, and a call updates the card there. Its one duty: it hands each call the card
+   as the last call left it, lends the same tables that it gave to ancp_card_start, and lets nobody else write either; card, tables, message and
+   reply buffer do not overlap. Everything else that is wrong gets its number.
 
    Across a restart: store ancp_card_next_transaction, and give a first transaction number that is not in use to the next start.
 
-   Link with libexports.a (`rt staticlib exports`), whose functions are proved; the inline functions here only copy the card in and out. */
+   Link with libexports.a (`rt staticlib exports`), whose functions are proved; the inline functions here only hand the arguments on. */
 #ifndef ANCP_CARD_H
 #define ANCP_CARD_H
 
@@ -95,21 +96,22 @@ typedef struct {
 /* the channels of a port's active flows in order: the first `count` of `rows` */
 typedef struct { size_t count; uint8_t rows[16]; } ancp_rows;
 
-/* ---- the proved functions: the card in, the card out */
-typedef struct { ancp_card card; uint8_t number; size_t length; } ancp_after;
+/* ---- the proved functions */
+enum { ANCP_CALL_UP = 0, ANCP_CALL_DOWN = 1, ANCP_CALL_DELEGATION = 2, ANCP_CALL_JOIN = 3, ANCP_CALL_LEAVE = 4, ANCP_CALL_ASK = 5, ANCP_CALL_MESSAGE = 6 };
+
+/* a call with its arguments; `amount` is the delegation that is set, or what is required when the host asks */
+typedef struct { uint8_t which; size_t port; uint32_t amount, preferred; ancp_flow flow; } ancp_call;
+typedef struct { uint8_t number; size_t length; } ancp_answer;
 typedef struct { ancp_card card; uint8_t number; } ancp_started;
 
 ancp_started ancp_card_started(const uint8_t *ids, size_t ports, const uint32_t *channels, size_t channel_count, const uint32_t *entries,
                                size_t entry_count, bool white_cac, bool add_cac, uint32_t first);
-ancp_after ancp_card_after_up(ancp_card card, size_t p);
-ancp_after ancp_card_after_down(ancp_card card, size_t p);
-ancp_after ancp_card_after_delegation(ancp_card card, const uint32_t *channels, size_t p, uint32_t amount);
-ancp_after ancp_card_after_join(ancp_card card, const uint8_t *ids, const uint32_t *channels, const uint32_t *entries, size_t p, ancp_flow f,
-                                uint8_t *reply, size_t room);
-ancp_after ancp_card_after_leave(ancp_card card, const uint32_t *channels, size_t p, ancp_flow f);
-ancp_after ancp_card_after_ask(ancp_card card, const uint8_t *ids, size_t p, uint32_t required, uint32_t preferred, uint8_t *reply, size_t room);
-ancp_after ancp_card_after_message(ancp_card card, const uint8_t *ids, const uint32_t *channels, const uint8_t *octets, size_t n, uint8_t *reply,
-                                   size_t room);
+
+/* any call: *card and the start of `reply` are written, nothing else */
+ancp_answer ancp_card_call(ancp_card *card, const uint8_t *ids, const uint32_t *channels, const uint32_t *entries, ancp_call call, const uint8_t *octets,
+                           size_t n, uint8_t *reply, size_t room);
+
+/* the readers take the card by value */
 bool ancp_card_up_in(ancp_card card, size_t p);
 uint32_t ancp_card_delegation_in(ancp_card card, size_t p);
 uint64_t ancp_card_committed_in(ancp_card card, const uint32_t *channels, size_t p);
@@ -118,12 +120,31 @@ bool ancp_card_active_in(ancp_card card, const uint32_t *channels, size_t p, anc
 size_t ancp_card_extras_in(ancp_card card);
 uint32_t ancp_card_next_in(ancp_card card);
 
-/* ---- for the host: the same on its own card. Each call returns its number; `length` gets how many octets of reply are written, and beyond them
-   the buffer is kept. Numbers 1 and 3 to 16 keep card and buffer. */
-static inline uint8_t ancp_keep(ancp_card *card, const ancp_after *after, size_t *length) {
-    *card = after->card;
-    if (length) *length = after->length;
-    return after->number;
+/* ---- for the host. Each call updates *card and returns its number; `length` gets how many octets of reply are written, and beyond them the
+   buffer is kept. Numbers 1 and 3 to 16 keep card and buffer. */
+static inline uint8_t ancp_calls(ancp_card *card, const ancp_tables *t, ancp_call call, const uint8_t *octets, size_t n, uint8_t *reply, size_t room,
+                                 size_t *length) {
+    ancp_answer a = ancp_card_call(card, t->ids, t->channels, t->entries, call, octets, n, reply, room);
+    if (length) *length = a.length;
+    return a.number;
+}
+
+/* a call without a message, and one without a reply either */
+static inline uint8_t ancp_replies(ancp_card *card, const ancp_tables *t, ancp_call call, uint8_t *reply, size_t room, size_t *length) {
+    uint8_t none = 0;
+    return ancp_calls(card, t, call, &none, 0, reply, room, length);
+}
+static inline uint8_t ancp_silent(ancp_card *card, const ancp_tables *t, ancp_call call) {
+    uint8_t none = 0;
+    return ancp_replies(card, t, call, &none, 0, NULL);
+}
+static inline ancp_call ancp_call_of(uint8_t which, size_t p, uint32_t amount, uint32_t preferred) {
+    ancp_call call = {which, p, amount, preferred, {0, 0, {0, 0, 0, 0}, {0, 0, 0, 0}}};
+    return call;
+}
+static inline ancp_call ancp_call_with(uint8_t which, size_t p, const ancp_flow *f) {
+    ancp_call call = {which, p, 0, 0, *f};
+    return call;
 }
 
 /* Takes the tables, or answers ANCP_BAD_START and leaves *card as it was; what *card held before is not read. */
@@ -135,46 +156,39 @@ static inline uint8_t ancp_card_start(ancp_card *card, const ancp_tables *t, siz
 }
 
 /* The port is up; its flows and an open request stay if it was up already. */
-static inline uint8_t ancp_card_port_up(ancp_card *card, size_t p) {
-    ancp_after a = ancp_card_after_up(*card, p);
-    return ancp_keep(card, &a, NULL);
+static inline uint8_t ancp_card_port_up(ancp_card *card, const ancp_tables *t, size_t p) {
+    return ancp_silent(card, t, ancp_call_of(ANCP_CALL_UP, p, 0, 0));
 }
 
 /* The port is down: its flows end and its request is closed; its delegation stays. */
-static inline uint8_t ancp_card_port_down(ancp_card *card, size_t p) {
-    ancp_after a = ancp_card_after_down(*card, p);
-    return ancp_keep(card, &a, NULL);
+static inline uint8_t ancp_card_port_down(ancp_card *card, const ancp_tables *t, size_t p) {
+    return ancp_silent(card, t, ancp_call_of(ANCP_CALL_DOWN, p, 0, 0));
 }
 
 /* The port's delegation, not below what is committed; an open request is closed. */
 static inline uint8_t ancp_card_set_delegation(ancp_card *card, const ancp_tables *t, size_t p, uint32_t amount) {
-    ancp_after a = ancp_card_after_delegation(*card, t->channels, p, amount);
-    return ancp_keep(card, &a, NULL);
+    return ancp_silent(card, t, ancp_call_of(ANCP_CALL_DELEGATION, p, amount, 0));
 }
 
 /* A white flow begins if there is room and, under White-List-CAC, its rate fits; for a grey one (ANCP_GREY) a message to the server is written. */
 static inline uint8_t ancp_card_join(ancp_card *card, const ancp_tables *t, size_t p, const ancp_flow *f, uint8_t *reply, size_t room, size_t *length) {
-    ancp_after a = ancp_card_after_join(*card, t->ids, t->channels, t->entries, p, *f, reply, room);
-    return ancp_keep(card, &a, length);
+    return ancp_replies(card, t, ancp_call_with(ANCP_CALL_JOIN, p, f), reply, room, length);
 }
 
 /* The flow ends, whoever began it. */
 static inline uint8_t ancp_card_leave(ancp_card *card, const ancp_tables *t, size_t p, const ancp_flow *f) {
-    ancp_after a = ancp_card_after_leave(*card, t->channels, p, *f);
-    return ancp_keep(card, &a, NULL);
+    return ancp_silent(card, t, ancp_call_with(ANCP_CALL_LEAVE, p, f));
 }
 
 /* Writes a request for bandwidth (146) to the server, which is then open. */
 static inline uint8_t ancp_card_ask(ancp_card *card, const ancp_tables *t, size_t p, uint32_t required, uint32_t preferred, uint8_t *reply, size_t room,
                                     size_t *length) {
-    ancp_after a = ancp_card_after_ask(*card, t->ids, p, required, preferred, reply, room);
-    return ancp_keep(card, &a, length);
+    return ancp_replies(card, t, ancp_call_of(ANCP_CALL_ASK, p, required, preferred), reply, room, length);
 }
 
 /* A message from the server is carried out, and its answer, if one is due, is written. */
 static inline uint8_t ancp_card_message(ancp_card *card, const ancp_tables *t, const uint8_t *octets, size_t n, uint8_t *reply, size_t room, size_t *length) {
-    ancp_after a = ancp_card_after_message(*card, t->ids, t->channels, octets, n, reply, room);
-    return ancp_keep(card, &a, length);
+    return ancp_calls(card, t, ancp_call_of(ANCP_CALL_MESSAGE, 0, 0, 0), octets, n, reply, room, length);
 }
 
 /* What a host may read. Of a number that is no port's: down, 0, no flows. */

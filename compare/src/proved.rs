@@ -58,10 +58,20 @@ struct RawRows {
     rows: [u8; 16],
 }
 
+/// A call with its arguments.
 #[repr(C)]
 #[derive(Clone, Copy)]
-struct RawAfter {
-    card: RawCard,
+struct RawCall {
+    which: u8,
+    port: usize,
+    amount: u32,
+    preferred: u32,
+    flow: RawFlow,
+}
+
+#[repr(C)]
+#[derive(Clone, Copy)]
+struct RawAnswer {
     number: u8,
     length: usize,
 }
@@ -88,30 +98,17 @@ extern "C" {
         add_cac: bool,
         first: u32,
     ) -> RawStarted;
-    fn ancp_card_after_up(card: RawCard, p: usize) -> RawAfter;
-    fn ancp_card_after_down(card: RawCard, p: usize) -> RawAfter;
-    fn ancp_card_after_delegation(card: RawCard, channels: Words, p: usize, amount: u32) -> RawAfter;
-    fn ancp_card_after_join(
-        card: RawCard,
+    fn ancp_card_call(
+        card: *mut RawCard,
         ids: Ids,
         channels: Words,
         entries: Words,
-        p: usize,
-        f: RawFlow,
-        reply: *mut u8,
-        room: usize,
-    ) -> RawAfter;
-    fn ancp_card_after_leave(card: RawCard, channels: Words, p: usize, f: RawFlow) -> RawAfter;
-    fn ancp_card_after_ask(card: RawCard, ids: Ids, p: usize, required: u32, preferred: u32, reply: *mut u8, room: usize) -> RawAfter;
-    fn ancp_card_after_message(
-        card: RawCard,
-        ids: Ids,
-        channels: Words,
+        call: RawCall,
         octets: *const u8,
         n: usize,
         reply: *mut u8,
         room: usize,
-    ) -> RawAfter;
+    ) -> RawAnswer;
     fn ancp_card_up_in(card: RawCard, p: usize) -> bool;
     fn ancp_card_delegation_in(card: RawCard, p: usize) -> u32;
     fn ancp_card_committed_in(card: RawCard, channels: Words, p: usize) -> u64;
@@ -167,61 +164,49 @@ impl Proved {
         }
     }
 
-    fn keep(&mut self, after: RawAfter) -> ProvedAnswer {
-        self.card = after.card;
-        ProvedAnswer { number: after.number, length: after.length }
-    }
-
-    pub fn port_up(&mut self, p: usize) -> ProvedAnswer {
-        let after = unsafe { ancp_card_after_up(self.card, p) };
-        self.keep(after)
-    }
-
-    pub fn port_down(&mut self, p: usize) -> ProvedAnswer {
-        let after = unsafe { ancp_card_after_down(self.card, p) };
-        self.keep(after)
-    }
-
-    pub fn set_delegation(&mut self, p: usize, amount: u32) -> ProvedAnswer {
-        let after = unsafe { ancp_card_after_delegation(self.card, self.channels(), p, amount) };
-        self.keep(after)
-    }
-
-    pub fn join(&mut self, p: usize, f: &HostFlow, reply: &mut [u8]) -> ProvedAnswer {
-        let after = unsafe {
-            ancp_card_after_join(
-                self.card,
-                self.ids(),
-                self.channels(),
+    fn call(&mut self, call: RawCall, octets: &[u8], reply: &mut [u8]) -> ProvedAnswer {
+        let answer = unsafe {
+            ancp_card_call(
+                &mut self.card,
+                self.tables.ids.as_ptr(),
+                self.tables.channels.as_ptr(),
                 self.tables.entries.as_ptr(),
-                p,
-                raw_flow(f),
+                call,
+                octets.as_ptr(),
+                octets.len(),
                 reply.as_mut_ptr(),
                 reply.len(),
             )
         };
-        self.keep(after)
+        ProvedAnswer { number: answer.number, length: answer.length }
+    }
+
+    pub fn port_up(&mut self, p: usize) -> ProvedAnswer {
+        self.call(call_of(UP, p, 0, 0), &[], &mut [])
+    }
+
+    pub fn port_down(&mut self, p: usize) -> ProvedAnswer {
+        self.call(call_of(DOWN, p, 0, 0), &[], &mut [])
+    }
+
+    pub fn set_delegation(&mut self, p: usize, amount: u32) -> ProvedAnswer {
+        self.call(call_of(DELEGATION, p, amount, 0), &[], &mut [])
+    }
+
+    pub fn join(&mut self, p: usize, f: &HostFlow, reply: &mut [u8]) -> ProvedAnswer {
+        self.call(call_with(JOIN, p, f), &[], reply)
     }
 
     pub fn leave(&mut self, p: usize, f: &HostFlow) -> ProvedAnswer {
-        let after = unsafe { ancp_card_after_leave(self.card, self.channels(), p, raw_flow(f)) };
-        self.keep(after)
+        self.call(call_with(LEAVE, p, f), &[], &mut [])
     }
 
     pub fn ask(&mut self, p: usize, required: u32, preferred: u32, reply: &mut [u8]) -> ProvedAnswer {
-        let after = unsafe { ancp_card_after_ask(self.card, self.ids(), p, required, preferred, reply.as_mut_ptr(), reply.len()) };
-        self.keep(after)
+        self.call(call_of(ASK, p, required, preferred), &[], reply)
     }
 
     pub fn message(&mut self, octets: &[u8], reply: &mut [u8]) -> ProvedAnswer {
-        let after = unsafe {
-            ancp_card_after_message(self.card, self.ids(), self.channels(), octets.as_ptr(), octets.len(), reply.as_mut_ptr(), reply.len())
-        };
-        self.keep(after)
-    }
-
-    fn ids(&self) -> Ids {
-        self.tables.ids.as_ptr()
+        self.call(call_of(MESSAGE, 0, 0, 0), octets, reply)
     }
 
     fn channels(&self) -> Words {
@@ -279,6 +264,25 @@ impl Proved {
         let record = (0..512).find(|&i| pool.owner[i] == owner && pool.channel[i] == row)?;
         Some((pool.accounting[record], pool.charged[record]))
     }
+}
+
+/// Which call a `RawCall` is.
+const UP: u8 = 0;
+const DOWN: u8 = 1;
+const DELEGATION: u8 = 2;
+const JOIN: u8 = 3;
+const LEAVE: u8 = 4;
+const ASK: u8 = 5;
+const MESSAGE: u8 = 6;
+
+const NO_FLOW: RawFlow = RawFlow { family: 0, sourced: 0, group: [0; 4], source: [0; 4] };
+
+fn call_of(which: u8, port: usize, amount: u32, preferred: u32) -> RawCall {
+    RawCall { which, port, amount, preferred, flow: NO_FLOW }
+}
+
+fn call_with(which: u8, port: usize, f: &HostFlow) -> RawCall {
+    RawCall { which, port, amount: 0, preferred: 0, flow: raw_flow(f) }
 }
 
 fn raw_flow(f: &HostFlow) -> RawFlow {

@@ -1,4 +1,5 @@
-// The card for a host in C: each call by value, the card in and the card out. include/ancp_card.h puts names with a pointer above them.
+// The card for a host in C. The start gives a card; one function carries out any call on the card where the host keeps it; the readers take
+// the card by value. include/ancp_card.h puts a name for each call above them.
 use card::Card;
 use card::Done;
 use card::Started;
@@ -7,16 +8,14 @@ use pool::Rows;
 ghost use mathlib.Core.Path.{_≡_};
 ghost use lib.ListN.{length};
 ghost use Rattle.pool.specs.Pool.{extrasOf, listed};
-ghost use Rattle.card.specs.Outcome.{doneOf, Ends};
-ghost use Rattle.card.specs.Calls.{portUpOf, portDownOf, setDelegationOf, leaveOf};
+ghost use Rattle.card.specs.Outcome.{Ends};
 ghost use Rattle.card.specs.Start.{startOf};
 ghost use Rattle.card.specs.Figures.{upOf, delegationOf, committedAt};
-ghost use Rattle.joins.specs.Joins.{joinOf};
-ghost use Rattle.joins.specs.Asks.{askOf};
 ghost use Rattle.listing.specs.Listing.{flowsAt, activeAt};
-ghost use Rattle.messages.specs.Messages.{receivedOf};
+ghost use Rattle.demand3.specs.Calls.{outcomeOf};
+ghost use Rattle.exports.specs.Calls.{tablesOf, callOf, Answers};
 
-// ---- start and calls
+// ---- start
 
 #[no_mangle]
 pub extern "C" fn ancp_card_started(
@@ -45,84 +44,78 @@ pub extern "C" fn ancp_card_started(
     )
 }
 
-#[no_mangle]
-pub extern "C" fn ancp_card_after_up(card: Card, p: usize) -> Done
-    ensures { λ r. ⌜ r ≡ doneOf (portUpOf card p) ⌝ }
-{
-    card::port_up(card, p)
+// ---- the calls, on the card where the host keeps it
+
+// Which call, with its arguments: 0 port up, 1 port down, 2 set delegation, 3 join, 4 leave, 5 ask, any other number a message. `amount` is
+// the delegation that is set, or what is required when the host asks.
+#[repr(C)]
+pub struct HostCall {
+    pub which: u8,
+    pub port: usize,
+    pub amount: u32,
+    pub preferred: u32,
+    pub flow: Flow,
 }
 
-#[no_mangle]
-pub extern "C" fn ancp_card_after_down(card: Card, p: usize) -> Done
-    ensures { λ r. ⌜ r ≡ doneOf (portDownOf card p) ⌝ }
-{
-    card::port_down(card, p)
+// The number of 01's table, and how many octets of reply are written.
+#[repr(C)]
+pub struct Answer {
+    pub number: u8,
+    pub length: usize,
 }
 
-#[no_mangle]
-pub extern "C" fn ancp_card_after_delegation(
-    card: Card,
-    channels: &[u32; 2816],
-    p: usize,
-    amount: u32,
-) -> Done
-    ensures { λ r. ⌜ r ≡ doneOf (setDelegationOf (now (channels .entry)) card p amount) ⌝ }
-{
-    card::set_delegation(card, channels, p, amount)
-}
-
-#[no_mangle]
-pub extern "C" fn ancp_card_after_join(
+// What any call comes to, the card by value.
+fn answered(
     card: Card,
     ids: &[u8; 4096],
     channels: &[u32; 2816],
     entries: &[u32; 1536],
-    p: usize,
-    f: Flow,
-    reply: &mut [u8],
-) -> Done
-    ensures { λ r. ⌜ Ends (joinOf (now (ids .entry)) (now (channels .entry)) (now (entries .entry)) card p f (length (now (reply .entry)))) r (now (reply .entry)) (now (reply .exit)) ⌝ }
-{
-    joins::join(card, ids, channels, entries, p, f, reply)
-}
-
-#[no_mangle]
-pub extern "C" fn ancp_card_after_leave(
-    card: Card,
-    channels: &[u32; 2816],
-    p: usize,
-    f: Flow,
-) -> Done
-    ensures { λ r. ⌜ r ≡ doneOf (leaveOf (now (channels .entry)) card p f) ⌝ }
-{
-    card::leave(card, channels, p, f)
-}
-
-#[no_mangle]
-pub extern "C" fn ancp_card_after_ask(
-    card: Card,
-    ids: &[u8; 4096],
-    p: usize,
-    required: u32,
-    preferred: u32,
-    reply: &mut [u8],
-) -> Done
-    ensures { λ r. ⌜ Ends (askOf (now (ids .entry)) card p required preferred (length (now (reply .entry)))) r (now (reply .entry)) (now (reply .exit)) ⌝ }
-{
-    joins::ask(card, ids, p, required, preferred, reply)
-}
-
-#[no_mangle]
-pub extern "C" fn ancp_card_after_message(
-    card: Card,
-    ids: &[u8; 4096],
-    channels: &[u32; 2816],
+    call: HostCall,
     octets: &[u8],
     reply: &mut [u8],
 ) -> Done
-    ensures { λ r. ⌜ Ends (receivedOf (now (ids .entry)) (now (channels .entry)) card (now (octets .entry)) (length (now (reply .entry)))) r (now (reply .entry)) (now (reply .exit)) ⌝ }
+    ensures { λ r. ⌜ Ends (outcomeOf (tablesOf card (now (ids .entry)) (now (channels .entry)) (now (entries .entry))) card (callOf call (now (octets .entry)) (length (now (reply .entry))))) r (now (reply .entry)) (now (reply .exit)) ⌝ }
 {
+    if call.which == 0 {
+        return card::port_up(card, call.port);
+    }
+    if call.which == 1 {
+        return card::port_down(card, call.port);
+    }
+    if call.which == 2 {
+        return card::set_delegation(card, channels, call.port, call.amount);
+    }
+    if call.which == 3 {
+        return joins::join(card, ids, channels, entries, call.port, call.flow, reply);
+    }
+    if call.which == 4 {
+        return card::leave(card, channels, call.port, call.flow);
+    }
+    if call.which == 5 {
+        return joins::ask(card, ids, call.port, call.amount, call.preferred, reply);
+    }
     messages::message(card, ids, channels, octets, reply)
+}
+
+// The same, and the card is updated where it is.
+#[no_mangle]
+pub extern "C" fn ancp_card_call(
+    card: &mut Card,
+    ids: &[u8; 4096],
+    channels: &[u32; 2816],
+    entries: &[u32; 1536],
+    call: HostCall,
+    octets: &[u8],
+    reply: &mut [u8],
+) -> Answer
+    ensures { λ r. ⌜ Answers (outcomeOf (tablesOf (now (card .entry)) (now (ids .entry)) (now (channels .entry)) (now (entries .entry))) (now (card .entry)) (callOf call (now (octets .entry)) (length (now (reply .entry))))) r (now (card .exit)) (now (reply .entry)) (now (reply .exit)) ⌝ }
+{
+    let done = answered(*card, ids, channels, entries, call, octets, reply);
+    *card = done.card;
+    Answer {
+        number: done.number,
+        length: done.length,
+    }
 }
 
 // ---- what a host may read
