@@ -4,16 +4,13 @@ use mathlib.Core.Bool.{true, false, cond}
 use mathlib.Core.List.{List}
 use Prim.Native.Nat.{ℕ}
 use Rattle.octets.proofs.Tests.{taken, left}
-use Rattle.flows.specs.declared.Flow.{Flow}
-use Rattle.flows.specs.Flows.{goodFlow}
-use Rattle.channels.specs.Channels.{channelOf}
 use Rattle.ports.specs.declared.Port.{Port}
 use Rattle.ports.specs.Ports.{takenDown}
 use Rattle.pool.specs.Pool.{endedAll}
 use Rattle.card.specs.declared.Card.{Card}
 use Rattle.card.specs.Cards.{hasPort, portAt, withPort, withPool}
 use Rattle.card.specs.Outcome.{Outcome, keeps, becomes}
-use Rattle.card.specs.Calls.{portDownOf, leaveRow, leaveOf}
+use Rattle.card.specs.Calls.{portDownOf}
 
 -- the card with another table of ports
 abbrev pub withTable : Card → List Port → Card
@@ -40,26 +37,3 @@ module _ (card : Card) (p : ℕ) (here : hasPort card p ≡ true) where
   pub down-goes : portAt card p .up ≡ true → down ≡ portDownOf card p
   unfolding portDownOf
   down-goes h = taken (portAt card p .up) down (keeps card 0) h ∙ taken (hasPort card p) (cond (portAt card p .up) down (keeps card 0)) (keeps card 7) here
-
-  module _ (channels : List ℕ) (f : Flow) where
-    abbrev row : Outcome
-    row = leaveRow card p (channelOf channels (card .«channel_count») f)
-
-    abbrev good : Outcome
-    good = cond (goodFlow f) row (keeps card 8)
-
-    abbrev up : Outcome
-    up = cond (portAt card p .up) good (keeps card 6)
-
-    pub leave-6 : portAt card p .up ≡ false → keeps card 6 ≡ leaveOf channels card p f
-    unfolding leaveOf
-    leave-6 h = left (portAt card p .up) good (keeps card 6) h ∙ taken (hasPort card p) up (keeps card 7) here
-
-    module _ (is-up : portAt card p .up ≡ true) where
-      pub leave-8 : goodFlow f ≡ false → keeps card 8 ≡ leaveOf channels card p f
-      unfolding leaveOf
-      leave-8 h = left (goodFlow f) row (keeps card 8) h ∙ taken (portAt card p .up) good (keeps card 6) is-up ∙ taken (hasPort card p) up (keeps card 7) here
-
-      pub leave-row : goodFlow f ≡ true → row ≡ leaveOf channels card p f
-      unfolding leaveOf
-      leave-row h = taken (goodFlow f) row (keeps card 8) h ∙ taken (portAt card p .up) good (keeps card 6) is-up ∙ taken (hasPort card p) up (keeps card 7) here

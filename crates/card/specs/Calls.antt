@@ -5,11 +5,8 @@ use mathlib.Core.List.{List}
 use lib.Dec.{leb}
 use Rattle.flows.specs.declared.Flow.{Flow}
 use Rattle.flows.specs.Flows.{goodFlow}
-use Rattle.rows.specs.declared.Found.{Found}
-use Rattle.rows.specs.declared.Found.the-variants.{At, Nothing}
-use Rattle.channels.specs.Channels.{channelOf}
 use Rattle.ports.specs.Ports.{broughtUp, takenDown, delegated}
-use Rattle.pool.specs.Pool.{isActive, committedOf, endedFlow, endedAll}
+use Rattle.pool.specs.Pool.{hasFlow, committedOf, endedFlow, endedAll}
 use Rattle.card.specs.declared.Card.{Card}
 use Rattle.card.specs.Cards.{hasPort, portAt, withPort, withPool}
 use Rattle.card.specs.Outcome.{Outcome, keeps, becomes}
@@ -36,17 +33,18 @@ setDelegationOf channels card p amount =
     (keeps card 11))
     (keeps card 7)
 
--- Leave: 7, 6, 8, 10. A flow that is no channel's is not active
-unfoldable pub leaveRow : Card → ℕ → Found → Outcome
-leaveRow card p Nothing = keeps card 10
-leaveRow card p (At k) = cond (isActive (card .pool) p k) (becomes (withPool card (endedFlow (card .pool) p k))) (keeps card 10)
+-- the port's flow with this address ends, whoever began it
+unfoldable pub leaveFlow : List ℕ → Card → ℕ → Flow → Outcome
+leaveFlow channels card p f =
+    cond (hasFlow channels (card .pool) p f) (becomes (withPool card (endedFlow channels (card .pool) p f))) (keeps card 10)
 
+-- Leave: 7, 6, 8, 10
 unfoldable pub leaveOf : List ℕ → Card → ℕ → Flow → Outcome
 leaveOf channels card p f =
     cond (hasPort card p)
     (cond (portAt card p .up)
     (cond (goodFlow f)
-    (leaveRow card p (channelOf channels (card .«channel_count») f))
+    (leaveFlow channels card p f)
     (keeps card 8))
     (keeps card 6))
     (keeps card 7)

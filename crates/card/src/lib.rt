@@ -3,14 +3,15 @@ use flows::Flow;
 use pool::Pool;
 use ports::Counter;
 use ports::Port;
-use rows::Found;
 ghost use mathlib.Core.Path.{_≡_};
 ghost use mathlib.Core.Bool.{true};
 ghost use Prim.Native.Nat.{_<_};
+ghost use lib.ListN.{length};
 ghost use Rattle.pool.specs.Pool.{committedOf, extrasOf};
 ghost use Rattle.card.specs.Cards.{isPort};
 ghost use Rattle.card.specs.Outcome.{keeps, doneOf};
-ghost use Rattle.card.specs.Calls.{portUpOf, portDownOf, setDelegationOf, leaveRow, leaveOf};
+ghost use Rattle.card.specs.Calls.{portUpOf, portDownOf, setDelegationOf, leaveOf};
+ghost use Rattle.card.specs.Parts.{LeavesOn};
 ghost use Rattle.card.specs.Start.{freshCard, firstOk, startOf};
 ghost use Rattle.card.specs.Figures.{upOf, delegationOf, committedAt};
 
@@ -202,34 +203,51 @@ pub fn set_delegation(card: Card, channels: &[u32; 2816], p: usize, amount: u32)
 pub fn leave(card: Card, channels: &[u32; 2816], p: usize, f: Flow) -> Done
     ensures { λ r. ⌜ r ≡ doneOf (leaveOf (now (channels .entry)) card p f) ⌝ }
 {
-    if !is_port(card.port_count, p) {
-        return kept(card, 7);
-    }
     let mut c = card;
-    let x = c.ports[p];
-    if !x.up {
-        return kept(c, 6);
-    }
-    if !flows::good_flow(f) {
-        return kept(c, 8);
-    }
-    let found = channels::channel_of(channels, c.channel_count, f);
-    match found {
-        Found::Nothing => kept(c, 10),
-        Found::At(k) => end_flow(c, p as u8, k),
-    }
+    let at = slot(p);
+    let x = c.ports[at];
+    let mut pool = c.pool;
+    let mut owner = pool.owner;
+    let number = leave_in(&mut owner, &pool.channel, channels, c.port_count, x, p, f);
+    pool.owner = owner;
+    c.pool = pool;
+    kept(c, number)
 }
 
-fn end_flow(card: Card, p: u8, k: u8) -> Done
-    ensures { λ r. ⌜ r ≡ doneOf (leaveRow card p (Found.At k)) ⌝ }
+// The same on the parts of a card that it reads and writes: the owner map becomes that of the card afterwards.
+pub fn leave_in(
+    owner: &mut [u8; 512],
+    channel: &[u8; 512],
+    channels: &[u32; 2816],
+    port_count: usize,
+    x: Port,
+    p: usize,
+    f: Flow,
+) -> u8
+    requires { ⌜ length (now owner) ≡ 512 ⌝ }
+    ensures { λ r. ⌜ LeavesOn (now (channels .entry)) (now (owner .entry)) (now (channel .entry)) «port_count» x p f r (now (owner .exit)) ⌝ }
 {
-    let mut c = card;
-    let pool = c.pool;
-    if !pool::is_active(&pool.owner, &pool.channel, p, k) {
-        return kept(c, 10);
+    if !is_port(port_count, p) {
+        return 7;
     }
-    c.pool = pool.end_flow(p, k);
-    kept(c, 0)
+    if !x.up {
+        return 6;
+    }
+    if !flows::good_flow(f) {
+        return 8;
+    }
+    if pool::end_in(owner, channel, channels, p as u8, f) {
+        return 0;
+    }
+    10
+}
+
+// Where port p's record lies in the table; a number that is no port's is not looked at.
+pub fn slot(p: usize) -> usize
+    ensures inside { λ r. ⌜ r < 64 ⌝ }
+    ensures same { λ r. ⌜ (p < 64 → r ≡ p) ⌝ }
+{
+    if 64 <= p { 63 } else { p }
 }
 
 // The port's committed amount, computed from its records.

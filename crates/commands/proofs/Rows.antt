@@ -1,36 +1,33 @@
--- What a command comes to on the flow of channel k, case by case, from the tests that lead there. Assumes nothing.
-use mathlib.Core.Path.{_≡_, sym, ap, _∙_}
+-- What an Add of the flow of channel k and a Delete come to, case by case, from the tests that lead there. Assumes nothing.
+use mathlib.Core.Path.{_≡_, sym, _∙_}
 use mathlib.Core.Bool.{true, false}
 use mathlib.Core.List.{List}
 use Prim.Native.Nat.{ℕ}
 use lib.Dec.{eqb}
 use borrow.Author.Tests.{eq-eqb, ne-eqb}
 use Rattle.octets.proofs.Tests.{taken, left}
+use Rattle.flows.specs.declared.Flow.{Flow}
 use Rattle.rows.specs.declared.Found.the-variants.{At}
-use Rattle.pool.specs.declared.Pool.{Pool}
-use Rattle.pool.specs.Pool.{isActive, began, accounted, endedFlow}
+use Rattle.pool.specs.Pool.{isActive, hasFlow, began, accounted, endedFlow}
 use Rattle.card.specs.declared.Card.{Card}
 use Rattle.card.specs.Cards.{withPool}
 use Rattle.joins.specs.Joins.{admitNumber}
 use Rattle.commands.specs.declared.Ran.{Ran}
-use Rattle.commands.specs.Commands.{fails, succeeds, addNew, addRow, deleteRow}
+use Rattle.commands.specs.Commands.{fails, succeeds, addNew, addRow, deleteFlow}
 
--- success with a pool y that is the one to be
-pub pooled : (card : Card) {y z : Pool} {r : Ran} → r ≡ succeeds (withPool card y) → y ≡ z → r ≡ succeeds (withPool card z)
-pooled card er ey = er ∙ ap (λ (x : Pool). succeeds (withPool card x)) ey
+module _ (channels : List ℕ) (card : Card) (p : ℕ) (f : Flow) where
+  abbrev ends : Ran
+  ends = succeeds (withPool card (endedFlow channels (card .pool) p f))
+
+  pub delete-active : hasFlow channels (card .pool) p f ≡ true → ends ≡ deleteFlow channels card p f
+  unfolding deleteFlow
+  delete-active h = taken (hasFlow channels (card .pool) p f) ends (fails card 0x66) h
+
+  pub delete-idle : hasFlow channels (card .pool) p f ≡ false → fails card 0x66 ≡ deleteFlow channels card p f
+  unfolding deleteFlow
+  delete-idle h = left (hasFlow channels (card .pool) p f) ends (fails card 0x66) h
 
 module _ (card : Card) (p k : ℕ) where
-  abbrev ends : Ran
-  ends = succeeds (withPool card (endedFlow (card .pool) p k))
-
-  pub delete-active : isActive (card .pool) p k ≡ true → ends ≡ deleteRow card p (At k)
-  unfolding deleteRow
-  delete-active h = taken (isActive (card .pool) p k) ends (fails card 0x66) h
-
-  pub delete-idle : isActive (card .pool) p k ≡ false → fails card 0x66 ≡ deleteRow card p (At k)
-  unfolding deleteRow
-  delete-idle h = left (isActive (card .pool) p k) ends (fails card 0x66) h
-
   module _ (channels : List ℕ) (accounting : ℕ) where
     abbrev again : Ran
     again = succeeds (withPool card (accounted (card .pool) p k accounting))

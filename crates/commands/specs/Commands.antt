@@ -1,5 +1,6 @@
 -- One command of a 144 on port p (01, "144"): the card behind it, and the result code, 0 for success. Assumes nothing: these are definitions.
 use Prim.Native.Nat.{ℕ}
+use mathlib.Core.Path.{_≡_}
 use mathlib.Core.Bool.{cond}
 use mathlib.Core.List.{List}
 use lib.Dec.{eqb}
@@ -7,13 +8,15 @@ use Rattle.flows.specs.declared.Flow.{Flow}
 use Rattle.rows.specs.declared.Found.{Found}
 use Rattle.rows.specs.declared.Found.the-variants.{At, Nothing}
 use Rattle.channels.specs.Channels.{channelOf}
-use Rattle.pool.specs.Pool.{isActive, began, endedFlow, endedAll, accounted}
+use Rattle.pool.specs.declared.Pool.{Pool}
+use Rattle.pool.specs.Pool.{Whole, isActive, hasFlow, began, endedFlow, endedAll, accounted}
 use Rattle.card.specs.declared.Card.{Card}
-use Rattle.card.specs.Cards.{withPool}
+use Rattle.card.specs.Cards.{portAt, withPool}
 use Rattle.joins.specs.Joins.{admitNumber}
 use Rattle.commands.specs.Orders.{Order, orderOf}
 use Rattle.commands.specs.Orders.Order.{ill, add, delete, deleteAll}
 use Rattle.commands.specs.declared.Ran.{Ran}
+use Rattle.commands.specs.declared.Terms.{Terms}
 
 -- a failed command changes nothing
 abbrev pub fails : Card → ℕ → Ran
@@ -37,17 +40,33 @@ addRow channels card p accounting (At k) =
     (addNew channels card p k accounting)
 
 -- "Delete of an inactive flow: 0x66"
-unfoldable pub deleteRow : Card → ℕ → Found → Ran
-deleteRow card p Nothing = fails card 0x66
-deleteRow card p (At k) =
-    cond (isActive (card .pool) p k) (succeeds (withPool card (endedFlow (card .pool) p k))) (fails card 0x66)
+unfoldable pub deleteFlow : List ℕ → Card → ℕ → Flow → Ran
+deleteFlow channels card p f =
+    cond (hasFlow channels (card .pool) p f) (succeeds (withPool card (endedFlow channels (card .pool) p f))) (fails card 0x66)
 
 unfoldable pub obeyed : List ℕ → Card → ℕ → Order → Ran
 obeyed channels card p (ill code) = fails card code
 obeyed channels card p (add f accounting) = addRow channels card p accounting (channelOf channels (card .«channel_count») f)
-obeyed channels card p (delete f) = deleteRow card p (channelOf channels (card .«channel_count») f)
+obeyed channels card p (delete f) = deleteFlow channels card p f
 obeyed channels card p deleteAll = succeeds (withPool card (endedAll (card .pool) p))
 
 -- a Command with content c
 abbrev pub ranOf : List ℕ → Card → ℕ → List ℕ → Ran
 ranOf channels card p c = obeyed channels card p (orderOf c)
+
+-- ---- the same on maps that are lent
+
+-- what a command asks of the card besides its maps
+pub record HasTerms (card : Card) (terms : Terms) : Type 0 where
+  pub count : card .«channel_count» ≡ terms .«channel_count»
+  pub delegation : portAt card (terms .port) .delegation ≡ terms .delegation
+  pub cac : card .«add_cac» ≡ terms .«add_cac»
+
+abbrev pub ranWith : Card → Pool → ℕ → Ran
+ranWith card pool code = record { card = withPool card pool; code = code }
+
+-- a function that was lent the maps `before`, left them as `after` and gave the code: on every card with these terms and maps
+-- that is what `ran` comes to
+pub record Runs (ran : Card → Ran) (terms : Terms) (before after : Pool) (code : ℕ) : Type 0 where
+  pub each : (card : Card) → HasTerms card terms → ran (withPool card before) ≡ ranWith card after code
+  pub whole : Whole after

@@ -1,36 +1,68 @@
-// One command of a Multicast Replication Control message (144) on port p.
+// One command of a Multicast Replication Control message (144), on the pool's four maps, which are lent and changed in place.
 use card::Card;
 use fields::Command;
 use fields::FLOW;
 use flows::Flow;
 use rows::Found;
 ghost use mathlib.Core.Path.{_≡_};
-ghost use Prim.Native.Nat.{_<_};
+ghost use mathlib.Core.Bool.{Bool};
+ghost use mathlib.Core.List.{List};
+ghost use Prim.Native.Nat.{ℕ};
+ghost use lib.ListN.{length};
 ghost use Rattle.fields.specs.Fields.{commandIn};
-ghost use Rattle.pool.specs.Pool.{endedAll};
-ghost use Rattle.card.specs.Cards.{withPool};
-ghost use Rattle.commands.specs.Orders.{flowsAsked, flowCount, flowContent, shapeOk, flowOrder};
-ghost use Rattle.commands.specs.Commands.{fails, succeeds, addNew, addRow, deleteRow, obeyed, ranOf};
+ghost use Rattle.channels.specs.Channels.{channelOf};
+ghost use Rattle.pool.specs.Pool.{poolOf, Whole};
+ghost use Rattle.commands.specs.Orders.{flowsAsked, flowCount, flowContent, shapeOk, flowOrder, Order};
+ghost use Rattle.commands.specs.Orders.Order.{deleteAll};
+ghost use Rattle.commands.specs.Commands.{addRow, deleteFlow, obeyed, ranOf, Runs};
 
-// The card behind a command, and its result code: 0 for success.
+// The card behind a command, and its result code: 0 for success. The definitions speak of it; the functions lend the maps.
 #[repr(C)]
 pub struct Ran {
     pub card: Card,
     pub code: u16,
 }
 
-pub fn run_command(card: Card, channels: &[u32; 2816], p: u8, c: &[u8]) -> Ran
-    requires { ⌜ p < 64 ⌝ }
-    ensures { λ r. ⌜ r ≡ ranOf (now (channels .entry)) card p (now (c .entry)) ⌝ }
+// What a command asks of the card besides its maps: the port, the number of channels, the port's delegation, MRepCtl-CAC.
+#[repr(C)]
+pub struct Terms {
+    pub port: u8,
+    pub channel_count: usize,
+    pub delegation: u32,
+    pub add_cac: bool,
+}
+
+// The answer is the result code: 0 for success.
+pub fn run_command(
+    channels: &[u32; 2816],
+    terms: Terms,
+    c: &[u8],
+    owner: &mut [u8; 512],
+    channel: &mut [u8; 512],
+    charged: &mut [bool; 512],
+    accounting: &mut [u8; 512],
+) -> u16
+    requires { ⌜ Whole (poolOf (now owner) (now channel) (now charged) (now accounting)) ⌝ }
+    ensures { λ r. ⌜ Runs (λ card. ranOf (now (channels .entry)) card (terms .port) (now (c .entry))) terms (poolOf (now (owner .entry)) (now (channel .entry)) (now (charged .entry)) (now (accounting .entry))) (poolOf (now (owner .exit)) (now (channel .exit)) (now (charged .exit)) (now (accounting .exit))) r ⌝ }
 {
     let command = fields::command_in(c);
     if !shape_ok(command, c) {
-        return failed(card, 0x64);
+        return 0x64;
     }
     if command.code == 3 {
-        return delete_all(card, p);
+        pool::end_all_in(owner, terms.port);
+        return 0;
     }
-    run_flow(card, channels, p, command, flow_content(c))
+    run_flow(
+        channels,
+        terms,
+        command,
+        flow_content(c),
+        owner,
+        channel,
+        charged,
+        accounting,
+    )
 }
 
 // Code 1 to 3, accounting 0 or 1, and as many flows as are called for.
@@ -63,89 +95,120 @@ fn flow_content<'a>(c: &'a [u8]) -> &'a [u8]
 }
 
 // Add or Delete of the flow with content c.
-fn run_flow(card: Card, channels: &[u32; 2816], p: u8, command: Command, c: &[u8]) -> Ran
-    requires { ⌜ p < 64 ⌝ }
-    ensures { λ r. ⌜ r ≡ obeyed (now (channels .entry)) card p (flowOrder (command .code) (command .accounting) (now (c .entry))) ⌝ }
+fn run_flow(
+    channels: &[u32; 2816],
+    terms: Terms,
+    command: Command,
+    c: &[u8],
+    owner: &mut [u8; 512],
+    channel: &mut [u8; 512],
+    charged: &mut [bool; 512],
+    accounting: &mut [u8; 512],
+) -> u16
+    requires { ⌜ Whole (poolOf (now owner) (now channel) (now charged) (now accounting)) ⌝ }
+    ensures { λ r. ⌜ Runs (λ card. obeyed (now (channels .entry)) card (terms .port) (flowOrder (command .code) (command .accounting) (now (c .entry)))) terms (poolOf (now (owner .entry)) (now (channel .entry)) (now (charged .entry)) (now (accounting .entry))) (poolOf (now (owner .exit)) (now (channel .exit)) (now (charged .exit)) (now (accounting .exit))) r ⌝ }
 {
     if !flow_octets::flow_formed(c) {
-        return failed(card, 0x55);
+        return 0x55;
     }
     let f = flow_octets::flow_named(c);
     if !flows::good_flow(f) {
-        return failed(card, 0x65);
+        return 0x65;
     }
-    let found = channels::channel_of(channels, card.channel_count, f);
     if command.code == 1 {
-        return add(card, channels, p, command.accounting, found);
+        return add(
+            channels,
+            terms,
+            f,
+            command.accounting,
+            owner,
+            channel,
+            charged,
+            accounting,
+        );
     }
-    delete(card, p, found)
+    delete(channels, terms, f, owner, channel)
 }
 
-fn add(card: Card, channels: &[u32; 2816], p: u8, accounting: u8, found: Found) -> Ran
-    requires { ⌜ p < 64 ⌝ }
-    ensures { λ r. ⌜ r ≡ addRow (now (channels .entry)) card p accounting found ⌝ }
+fn add(
+    channels: &[u32; 2816],
+    terms: Terms,
+    f: Flow,
+    value: u8,
+    owner: &mut [u8; 512],
+    channel: &mut [u8; 512],
+    charged: &mut [bool; 512],
+    accounting: &mut [u8; 512],
+) -> u16
+    requires { ⌜ Whole (poolOf (now owner) (now channel) (now charged) (now accounting)) ⌝ }
+    ensures { λ r. ⌜ Runs (λ card. addRow (now (channels .entry)) card (terms .port) value (channelOf (now (channels .entry)) (card .«channel_count») f)) terms (poolOf (now (owner .entry)) (now (channel .entry)) (now (charged .entry)) (now (accounting .entry))) (poolOf (now (owner .exit)) (now (channel .exit)) (now (charged .exit)) (now (accounting .exit))) r ⌝ }
 {
+    let found = channels::channel_of(channels, terms.channel_count, f);
     match found {
-        Found::Nothing => failed(card, 0x66),
-        Found::At(k) => add_channel(card, channels, p, k, accounting),
+        Found::Nothing => 0x66,
+        Found::At(k) => add_channel(
+            channels,
+            terms,
+            k,
+            value,
+            owner,
+            channel,
+            charged,
+            accounting,
+        ),
     }
 }
 
-fn add_channel(card: Card, channels: &[u32; 2816], p: u8, k: u8, accounting: u8) -> Ran
-    requires { ⌜ p < 64 ⌝ }
-    ensures { λ r. ⌜ r ≡ addRow (now (channels .entry)) card p accounting (Found.At k) ⌝ }
+// An active flow gets its accounting only; another begins if it is admitted.
+fn add_channel(
+    channels: &[u32; 2816],
+    terms: Terms,
+    k: u8,
+    value: u8,
+    owner: &mut [u8; 512],
+    channel: &mut [u8; 512],
+    charged: &mut [bool; 512],
+    accounting: &mut [u8; 512],
+) -> u16
+    requires { ⌜ Whole (poolOf (now owner) (now channel) (now charged) (now accounting)) ⌝ }
+    ensures { λ r. ⌜ Runs (λ card. addRow (now (channels .entry)) card (terms .port) value (Found.At k)) terms (poolOf (now (owner .entry)) (now (channel .entry)) (now (charged .entry)) (now (accounting .entry))) (poolOf (now (owner .exit)) (now (channel .exit)) (now (charged .exit)) (now (accounting .exit))) r ⌝ }
 {
-    let mut c = card;
-    let pool = c.pool;
-    if pool::is_active(&pool.owner, &pool.channel, p, k) {
-        c.pool = pool.set_accounting(p, k, accounting);
-        return succeeded(c);
+    let p = terms.port;
+    let cac = terms.add_cac;
+    if pool::account_in(accounting, owner, channel, p, k, value) {
+        return 0;
     }
-    if joins::admit_number(channels, c, c.add_cac, p, k) != 0 {
-        return failed(c, 0x13);
+    if joins::admit_number(
+        channels,
+        owner,
+        channel,
+        charged,
+        terms.delegation,
+        cac,
+        p,
+        k,
+    )
+        != 0
+    {
+        return 0x13;
     }
-    c.pool = pool.begin(p, k, c.add_cac, accounting);
-    succeeded(c)
+    pool::begin_in(owner, channel, charged, accounting, p, k, cac, value);
+    0
 }
 
-fn delete(card: Card, p: u8, found: Found) -> Ran
-    ensures { λ r. ⌜ r ≡ deleteRow card p found ⌝ }
+// Whatever the other two maps hold.
+fn delete(
+    channels: &[u32; 2816],
+    terms: Terms,
+    f: Flow,
+    owner: &mut [u8; 512],
+    channel: &[u8; 512],
+) -> u16
+    requires { ⌜ length (now owner) ≡ 512 ⌝ }
+    ensures { λ r. ⌜ ((charged : List Bool) (accounting : List ℕ) → Whole (poolOf (now (owner .entry)) (now (channel .entry)) charged accounting) → Runs (λ card. deleteFlow (now (channels .entry)) card (terms .port) f) terms (poolOf (now (owner .entry)) (now (channel .entry)) charged accounting) (poolOf (now (owner .exit)) (now (channel .entry)) charged accounting) r) ⌝ }
 {
-    match found {
-        Found::Nothing => failed(card, 0x66),
-        Found::At(k) => delete_channel(card, p, k),
+    if pool::end_in(owner, channel, channels, terms.port, f) {
+        return 0;
     }
-}
-
-fn delete_channel(card: Card, p: u8, k: u8) -> Ran
-    ensures { λ r. ⌜ r ≡ deleteRow card p (Found.At k) ⌝ }
-{
-    let mut c = card;
-    let pool = c.pool;
-    if !pool::is_active(&pool.owner, &pool.channel, p, k) {
-        return failed(c, 0x66);
-    }
-    c.pool = pool.end_flow(p, k);
-    succeeded(c)
-}
-
-fn delete_all(card: Card, p: u8) -> Ran
-    ensures { λ r. ⌜ r ≡ succeeds (withPool card (endedAll (card .pool) p)) ⌝ }
-{
-    let mut c = card;
-    let pool = c.pool;
-    c.pool = pool.end_all(p);
-    succeeded(c)
-}
-
-fn failed(card: Card, code: u16) -> Ran
-    ensures { λ r. ⌜ r ≡ fails card code ⌝ }
-{
-    Ran { card, code }
-}
-
-fn succeeded(card: Card) -> Ran
-    ensures { λ r. ⌜ r ≡ succeeds card ⌝ }
-{
-    Ran { card, code: 0 }
+    0x66
 }

@@ -9,9 +9,13 @@ use Rattle.items.specs.Items.{itemsOf, ofType}
 use Rattle.writers.specs.Tlvs.{tlvOf, targetOf, sequenceOf}
 use Rattle.replies.specs.Replies.{refusalOf, successOf}
 use Rattle.circuits.specs.Circuits.{idAt}
+use Rattle.pool.specs.declared.Pool.{Pool}
 use Rattle.card.specs.declared.Card.{Card}
-use Rattle.card.specs.Outcome.{Outcome, becomes, writes}
-use Rattle.commands.specs.Commands.{ranOf}
+use Rattle.card.specs.declared.Done.{Done}
+use Rattle.card.specs.Cards.{withPool}
+use Rattle.card.specs.Outcome.{Outcome, becomes, writes, Ends}
+use Rattle.commands.specs.declared.Terms.{Terms}
+use Rattle.commands.specs.Commands.{ranOf, HasTerms}
 
 -- "Failure: Generic Response, Status-Info enclosing Target, Sequence-Number (first command is 1) and the failed Command as received"
 unfoldable pub failureOf : Header → ℕ → List ℕ → ℕ → List ℕ → List ℕ
@@ -35,3 +39,14 @@ commandsIn s = ofType 0x0011 (itemsOf s)
 
 unfoldable pub controlled : List ℕ → List ℕ → Card → Header → ℕ → List ℕ → Outcome
 controlled ids channels card h p s = commandsFrom channels h (idAt ids p) p card 1 (commandsIn s)
+
+-- ---- the same on maps that are lent
+
+-- what a call gives that wrote n octets of reply
+abbrev pub wrote : Card → ℕ → Done
+wrote card n = record { card = card; number = 0; length = n }
+
+-- a function that was lent the maps `before` and the buffer `text`, left the maps as `after` and the buffer as `written`, and wrote n
+-- octets: on every card with these terms and maps that is what `o` comes to
+pub record Controls (o : Card → Outcome) (terms : Terms) (before after : Pool) (n : ℕ) (text written : List ℕ) : Type 0 where
+  pub each : (card : Card) → HasTerms card terms → Ends (o (withPool card before)) (wrote (withPool card after) n) text written

@@ -1,8 +1,10 @@
 // Multicast Replication Control (144) about port p, which passed the table: its commands in order.
 use card::Card;
 use card::Done;
+use commands::Terms;
 use fields::COMMAND;
 use header::Header;
+use pool::Pool;
 use tlv::First;
 ghost use mathlib.Core.Path.{_≡_};
 ghost use mathlib.Core.List.{_++_};
@@ -10,8 +12,10 @@ ghost use Prim.Native.Nat.{_≤_, _<_};
 ghost use lib.ListN.{length};
 ghost use Rattle.octets.specs.Writing.{Wrote};
 ghost use Rattle.writers.specs.Tlvs.{tlvOf, targetOf, sequenceOf};
+ghost use Rattle.pool.specs.Pool.{poolOf, Whole};
+ghost use Rattle.card.specs.Cards.{withPool};
 ghost use Rattle.card.specs.Outcome.{Ends};
-ghost use Rattle.control.specs.Control.{failureOf, allGood, commandsFrom, commandsIn, controlled};
+ghost use Rattle.control.specs.Control.{failureOf, allGood, commandsFrom, commandsIn, controlled, wrote, Controls};
 
 pub fn control(
     card: Card,
@@ -40,15 +44,57 @@ fn run_commands(
     requires { ⌜ (4608 ≤ length (now reply)) × (p < 64) × (length (now id) < 64) × (length (now tlvs) ≤ 4096) ⌝ }
     ensures { λ d. ⌜ Ends (commandsFrom (now (channels .entry)) h (now (id .entry)) p card 1 (commandsIn (now (tlvs .entry)))) d (now (reply .entry)) (now (reply .exit)) ⌝ }
 {
-    let mut c = card;
+    let x = card.ports[p as usize];
+    let terms = Terms {
+        port: p,
+        channel_count: card.channel_count,
+        delegation: x.delegation,
+        add_cac: card.add_cac,
+    };
+    let pool = card.pool;
+    let mut owner = pool.owner;
+    let mut channel = pool.channel;
+    let mut charged = pool.charged;
+    let mut accounting = pool.accounting;
+    let n = run_all(
+        channels,
+        terms,
+        h,
+        id,
+        tlvs,
+        &mut owner,
+        &mut channel,
+        &mut charged,
+        &mut accounting,
+        reply,
+    );
+    card::written(with_maps(card, owner, channel, charged, accounting), n)
+}
+
+// All commands in order, on the maps of the pool; the answer is how many octets of reply are written.
+fn run_all(
+    channels: &[u32; 2816],
+    terms: Terms,
+    h: Header,
+    id: &[u8],
+    tlvs: &[u8],
+    owner: &mut [u8; 512],
+    channel: &mut [u8; 512],
+    charged: &mut [bool; 512],
+    accounting: &mut [u8; 512],
+    reply: &mut [u8],
+) -> usize
+    requires { ⌜ (4608 ≤ length (now reply)) × (length (now id) < 64) × (length (now tlvs) ≤ 4096) × Whole (poolOf (now owner) (now channel) (now charged) (now accounting)) ⌝ }
+    ensures { λ n. ⌜ Controls (λ card. commandsFrom (now (channels .entry)) h (now (id .entry)) (terms .port) card 1 (commandsIn (now (tlvs .entry)))) terms (poolOf (now (owner .entry)) (now (channel .entry)) (now (charged .entry)) (now (accounting .entry))) (poolOf (now (owner .exit)) (now (channel .exit)) (now (charged .exit)) (now (accounting .exit))) n (now (reply .entry)) (now (reply .exit)) ⌝ }
+{
     let mut seq: u32 = 1;
     let mut at: usize = 0;
     loop {
         let step = reader::step_at(tlvs, at);
         let next = step.first;
         match next {
-            First::End => return finish(c, h, reply),
-            First::Broken => return finish(c, h, reply),
+            First::End => return finish(h, reply),
+            First::Broken => return finish(h, reply),
             First::Tlv { kind, len, size: _ } => {
                 if kind != COMMAND {
                     at = step.next;
@@ -56,12 +102,19 @@ fn run_commands(
                 }
                 let b = at + 4;
                 let e = b + len;
-                let ran = commands::run_command(c, channels, p, &tlvs[b..e]);
-                if ran.code != 0 {
-                    let n = put_failure(reply, h, ran.code, id, seq, &tlvs[b..e]);
-                    return card::written(c, n);
+                let c = &tlvs[b..e];
+                let code = commands::run_command(
+                    channels,
+                    terms,
+                    c,
+                    owner,
+                    channel,
+                    charged,
+                    accounting,
+                );
+                if code != 0 {
+                    return put_failure(reply, h, code, id, seq, c);
                 }
-                c = ran.card;
                 seq += 1;
                 at = step.next;
             }
@@ -69,15 +122,36 @@ fn run_commands(
     }
 }
 
-fn finish(card: Card, h: Header, reply: &mut [u8]) -> Done
+// The card with these maps as its pool.
+fn with_maps(
+    card: Card,
+    owner: [u8; 512],
+    channel: [u8; 512],
+    charged: [bool; 512],
+    accounting: [u8; 512],
+) -> Card
+    ensures { λ r. ⌜ r ≡ withPool card (poolOf owner channel charged accounting) ⌝ }
+{
+    let mut c = card;
+    let pool = Pool {
+        owner,
+        channel,
+        charged,
+        accounting,
+    };
+    c.pool = pool;
+    c
+}
+
+// All good: Success for Result 2, nothing for Result 1.
+fn finish(h: Header, reply: &mut [u8]) -> usize
     requires { ⌜ 4608 ≤ length (now reply) ⌝ }
-    ensures { λ d. ⌜ Ends (allGood h card) d (now (reply .entry)) (now (reply .exit)) ⌝ }
+    ensures { λ n. ⌜ ((card : Card) → Ends (allGood h card) (wrote card n) (now (reply .entry)) (now (reply .exit))) ⌝ }
 {
     if h.result != 2 {
-        return card::kept(card, 0);
+        return 0;
     }
-    let n = replies::put_success(reply, h);
-    card::written(card, n)
+    replies::put_success(reply, h)
 }
 
 fn put_failure(reply: &mut [u8], h: Header, code: u16, id: &[u8], seq: u32, c: &[u8]) -> usize

@@ -16,7 +16,7 @@ use lib.Dec.{eqb, leb}
 use borrow.Author.Tests.{leb-true, le-leb}
 use Rattle.flows.specs.declared.Flow.{Flow}
 use Rattle.rows.specs.declared.Found.the-variants.{At}
-use Rattle.channels.specs.Channels.{rateAt}
+use Rattle.channels.specs.Channels.{rateAt, isRow}
 use Rattle.sums.specs.Sums.{sumBy}
 use Rattle.pool.specs.Pool.{roomFor, hasRoom, free, began, ended, endedFlow, endedAll, accounted}
 use Rattle.pool.proofs.Rooms.{room-facts, room-by, room-both}
@@ -30,7 +30,7 @@ use Rattle.demand3.specs.Calls.{Tables}
 use Rattle.demand3.specs.Ledger.{Held, Ledger, write, holds, without, withFlows, begins}
 use Rattle.demand3.specs.Reads.{rateOf}
 use Rattle.demand3.specs.Claim.{charges, allExtras, Once, Room, Starts}
-use Rattle.demand3.proofs.Rows.{flowSum, AllListed, found, listed-at, row-is, rate-is, without-sum, without-listed, without-once, without-few, without-charges}
+use Rattle.demand3.proofs.Rows.{flowSum, AllListed, found, listed-at, row-is, row-named, rate-is, without-sum, without-listed, without-once, without-few, without-charges}
 use Rattle.demand3.proofs.Agree.{Agree, agree-as, write-back}
 use Rattle.demand3.proofs.Figures.{count-is, extras-is, committed-is}
 use Rattle.demand3.proofs.Steps.{pool-step}
@@ -138,11 +138,11 @@ module _ (t : Tables) (card : Card) (l : Ledger) (a : Agree t card l) (p : ℕ) 
         idle = idle;
       })
 
-  pub flow-ends : (f : Flow) (k : ℕ) → found t f ≡ At k
-      → Agree t (withPool card (endedFlow (card .pool) p k)) (write l p (withFlows (l p) (without f (l p .flows))))
+  pub flow-ends : (f : Flow) → Agree t (withPool card (endedFlow (t .channels) (card .pool) p f)) (write l p (withFlows (l p) (without f (l p .flows))))
   unfolding without
-  flow-ends f k e =
-      ended-step (λ j. eqb j k) (without f (l p .flows)) (λ w. sym (without-sum t f k e w (l p .flows) (a .at p port .rows)))
+  flow-ends f =
+      ended-step (isRow (t .channels) f) (without f (l p .flows))
+      (λ w. sym (without-sum t f (isRow (t .channels) f) (row-named t f) w (l p .flows) (a .at p port .rows)))
       (without-listed t f (l p .flows) (a .at p port .rows)) (without-once t f (l p .flows) (a .at p port .once)) (without-few t f (l p .flows))
       (without-charges t f (l p))
       (λ d. ap (without f) (a .at p port .idle d))

@@ -18,21 +18,21 @@ use Rattle.fields.specs.Fields.{commandIn}
 use Rattle.rows.specs.declared.Found.{Found}
 use Rattle.rows.specs.declared.Found.the-variants.{At, Nothing}
 use Rattle.channels.specs.Channels.{channelOf}
-use Rattle.pool.specs.Pool.{isActive, began, endedFlow, accounted}
+use Rattle.pool.specs.Pool.{isActive, hasFlow, began, endedFlow, accounted}
 use Rattle.card.specs.declared.Card.{Card}
 use Rattle.card.specs.Cards.{withPool}
 use Rattle.joins.specs.Joins.{admitNumber}
 use Rattle.commands.specs.declared.Ran.{Ran}
 use Rattle.commands.specs.Orders.{Order, shapeOk, flowContent, flowOrder, orderOf}
 use Rattle.commands.specs.Orders.Order.{ill, add, delete, deleteAll}
-use Rattle.commands.specs.Commands.{fails, succeeds, addNew, addRow, deleteRow, obeyed}
+use Rattle.commands.specs.Commands.{fails, succeeds, addNew, addRow, deleteFlow, obeyed}
 use Rattle.demand3.specs.Calls.{Tables}
 use Rattle.demand3.specs.Ledger.{Held, Line, Ledger, write, holds, without, withFlows, begins, acts, actsAll}
 use Rattle.demand3.specs.Reads.{listed}
 use Rattle.demand3.specs.Claim.{Starts, Succeeds}
 use Rattle.demand3.proofs.Rows.{found, listed-at, unlisted-at, unlisted-held}
 use Rattle.demand3.proofs.Agree.{Agree, agree-as, write-back}
-use Rattle.demand3.proofs.Figures.{active-is}
+use Rattle.demand3.proofs.Figures.{active-is, has-is}
 use Rattle.demand3.proofs.Admit.{admits, admits-step, flow-ends, all-end, accounted-step}
 
 -- ---- a command that is not well-formed has a result code of its own
@@ -153,30 +153,23 @@ module _ (t : Tables) (card : Card) (l : Ledger) (a : Agree t card l) (p : ℕ) 
 
   -- ---- Delete
   module _ (f : Flow) where
-    delete-found : obeyed (t .channels) card p (delete f) ≡ deleteRow card p (found t f)
-    unfolding obeyed
-    delete-found = ap (λ (n : ℕ). deleteRow card p (channelOf (t .channels) n f)) (a .channels)
+    abbrev byHeld : Bool → Ran
+    byHeld b = cond b (succeeds (withPool card (endedFlow (t .channels) (card .pool) p f))) (fails card 0x66)
 
-    abbrev byHeld : ℕ → Bool → Ran
-    byHeld k b = cond b (succeeds (withPool card (endedFlow (card .pool) p k))) (fails card 0x66)
-
-    delete-agrees : (r : Found) → found t f ≡ r → deleteRow card p r .code ≡ 0
-        → Agree t (deleteRow card p r .card) (write l p (withFlows (l p) (without f (l p .flows))))
-    unfolding deleteRow
-    delete-agrees Nothing e z = absurd (omega arith)
-    delete-agrees (At k) e z = go (isActive (card .pool) p k) z
+    delete-agrees : deleteFlow (t .channels) card p f .code ≡ 0
+        → Agree t (deleteFlow (t .channels) card p f .card) (write l p (withFlows (l p) (without f (l p .flows))))
+    unfolding deleteFlow
+    delete-agrees z = go (hasFlow (t .channels) (card .pool) p f) z
       where
-        go : (b : Bool) → byHeld k b .code ≡ 0 → Agree t (byHeld k b .card) (write l p (withFlows (l p) (without f (l p .flows))))
-        go true z = flow-ends t card l a p port f k e
+        go : (b : Bool) → byHeld b .code ≡ 0 → Agree t (byHeld b .card) (write l p (withFlows (l p) (without f (l p .flows))))
+        go true z = flow-ends t card l a p port f
         go false z = absurd (omega arith)
 
-    delete-succeeds : (r : Found) → found t f ≡ r → (deleteRow card p r .code ≡ 0) ↔ (holds f (l p .flows) ≡ true)
-    unfolding deleteRow
-    delete-succeeds Nothing e =
-        (λ z. absurd (omega arith), λ s. absurd (false≢true (sym (unlisted-held t f (unlisted-at t f e) (l p .flows) (a .at p port .rows)) ∙ s)))
-    delete-succeeds (At k) e = go (isActive (card .pool) p k) (active-is t card l a p port f k e)
+    delete-succeeds : (deleteFlow (t .channels) card p f .code ≡ 0) ↔ (holds f (l p .flows) ≡ true)
+    unfolding deleteFlow
+    delete-succeeds = go (hasFlow (t .channels) (card .pool) p f) (has-is t card l a p port f)
       where
-        go : (b : Bool) → b ≡ holds f (l p .flows) → (byHeld k b .code ≡ 0) ↔ (holds f (l p .flows) ≡ true)
+        go : (b : Bool) → b ≡ holds f (l p .flows) → (byHeld b .code ≡ 0) ↔ (holds f (l p .flows) ≡ true)
         go true h = (λ z. sym h, λ s. refl)
         go false h = (λ z. absurd (omega arith), λ s. absurd (false≢true (h ∙ s)))
 
@@ -186,15 +179,14 @@ module _ (t : Tables) (card : Card) (l : Ledger) (a : Agree t card l) (p : ℕ) 
   obeyed-agrees (ill code) z = kept
   obeyed-agrees (add f v) z =
       subst (λ (r : Ran). r .code ≡ 0 → Agree t (r .card) (write l p (acts t (l p) (add f v)))) (sym (add-found f v)) (add-agrees f v (found t f) refl) z
-  obeyed-agrees (delete f) z =
-      subst (λ (r : Ran). r .code ≡ 0 → Agree t (r .card) (write l p (withFlows (l p) (without f (l p .flows))))) (sym (delete-found f)) (delete-agrees f (found t f) refl) z
+  obeyed-agrees (delete f) z = delete-agrees f z
   obeyed-agrees deleteAll z = all-end t card l a p port
 
   pub obeyed-succeeds : (o : Order) → Coded o → (obeyed (t .channels) card p o .code ≡ 0) ↔ Succeeds t l p o
   unfolding obeyed Succeeds
   obeyed-succeeds (ill code) c = (λ z. c z, λ s. absurd s)
   obeyed-succeeds (add f v) c = subst (λ (r : Ran). (r .code ≡ 0) ↔ Succeeds t l p (add f v)) (sym (add-found f v)) (add-succeeds f v (found t f) refl)
-  obeyed-succeeds (delete f) c = subst (λ (r : Ran). (r .code ≡ 0) ↔ Succeeds t l p (delete f)) (sym (delete-found f)) (delete-succeeds f (found t f) refl)
+  obeyed-succeeds (delete f) c = delete-succeeds f
   obeyed-succeeds deleteAll c = (λ z. tt, λ s. refl)
 
   -- and what is read off a Command's content

@@ -1,5 +1,5 @@
 -- On a card that agrees with a ledger, the figures of its ports are the ledger's.
---     active-is, count-is, extras-is, committed-is      the figures that calls decide by
+--     active-is, has-is, count-is, extras-is, committed-is      the figures that calls decide by
 --     has-port                                          the ports are those of start
 --     reads-up, reads-delegation, reads-active, reads-committed      what a host reads
 --     reads-once, reads-bounded                         no flow twice; committed within the delegation
@@ -10,15 +10,15 @@ use mathlib.Core.Bool.{Bool, true, false, cond}
 use mathlib.Core.List.{[], _∷_}
 use native.Mathlib.Omega.{arith}
 use lib.ListN.{length}
-use lib.Dec.{ltb}
+use lib.Dec.{eqb, ltb}
 use borrow.Author.Tests.{lt-ltb}
 use Rattle.octets.proofs.Tests.{every-by}
 use Rattle.flows.specs.declared.Flow.{Flow}
 use Rattle.rows.specs.declared.Found.{Found}
 use Rattle.rows.specs.declared.Found.the-variants.{At, Nothing}
-use Rattle.channels.specs.Channels.{channelOf}
+use Rattle.channels.specs.Channels.{isRow, channelOf}
 use Rattle.sums.proofs.Sums.{sumTo-ext}
-use Rattle.pool.specs.Pool.{isActive, countOf, extrasOf, committedOf}
+use Rattle.pool.specs.Pool.{isActive, hasFlow, countOf, extrasOf, committedOf}
 use Rattle.card.specs.declared.Card.{Card}
 use Rattle.card.specs.Cards.{isPort, hasPort, portAt}
 use Rattle.card.specs.Figures.{upOf, delegationOf, committedAt}
@@ -26,14 +26,19 @@ use Rattle.listing.specs.Listing.{activeRow, activeAt}
 use Rattle.demand3.specs.Calls.{Tables}
 use Rattle.demand3.specs.Ledger.{Ledger, holds}
 use Rattle.demand3.specs.Claim.{charges, allExtras, Once}
-use Rattle.demand3.proofs.Rows.{found, rowWeight, rateWeight, holds-sum, length-sum, charges-sum, unlisted-held, unlisted-at}
+use Rattle.demand3.proofs.Rows.{found, selWeight, rowWeight, rateWeight, row-same, row-named, holds-sum, length-sum, charges-sum, unlisted-held, unlisted-at}
 use Rattle.demand3.proofs.Agree.{Agree, TablesTaken}
 
 module _ (t : Tables) (card : Card) (l : Ledger) (a : Agree t card l) where
   -- ---- figures that calls decide by
   module _ (p : ℕ) (port : p < 64) where
     pub active-is : (f : Flow) (k : ℕ) → found t f ≡ At k → isActive (card .pool) p k ≡ holds f (l p .flows)
-    active-is f k e = ap (ltb 0) (a .at p port .flows (rowWeight k)) ∙ holds-sum t f k e (l p .flows) (a .at p port .rows)
+    active-is f k e = ap (ltb 0) (a .at p port .flows (rowWeight k)) ∙ holds-sum t f (λ j. eqb j k) (row-same t f k e) (l p .flows) (a .at p port .rows)
+
+    pub has-is : (f : Flow) → hasFlow (t .channels) (card .pool) p f ≡ holds f (l p .flows)
+    has-is f =
+        ap (ltb 0) (a .at p port .flows (selWeight (isRow (t .channels) f)))
+        ∙ holds-sum t f (isRow (t .channels) f) (row-named t f) (l p .flows) (a .at p port .rows)
 
     pub count-is : countOf (card .pool) p ≡ length (l p .flows)
     count-is = a .at p port .flows (λ k c. 1) ∙ length-sum t (l p .flows)

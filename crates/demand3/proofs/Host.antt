@@ -18,11 +18,11 @@ use Rattle.channels.specs.Channels.{channelOf}
 use Rattle.ports.specs.declared.Port.{Port}
 use Rattle.ports.specs.Ports.{broughtUp, takenDown, delegated, asked, mayAsk}
 use Rattle.ports.specs.Transactions.{takenFrom}
-use Rattle.pool.specs.Pool.{isActive, committedOf, endedFlow, endedAll}
+use Rattle.pool.specs.Pool.{hasFlow, committedOf, endedFlow, endedAll}
 use Rattle.card.specs.declared.Card.{Card}
 use Rattle.card.specs.Cards.{isPort, hasPort, portAt, withPort, withPool}
 use Rattle.card.specs.Outcome.{Outcome, keeps, becomes}
-use Rattle.card.specs.Calls.{portUpOf, portDownOf, setDelegationOf, leaveRow, leaveOf}
+use Rattle.card.specs.Calls.{portUpOf, portDownOf, setDelegationOf, leaveFlow, leaveOf}
 use Rattle.joins.specs.Asks.{askedOf, askOf}
 use Rattle.demand3.specs.Calls.{Tables, ours, outcomeOf, seen}
 use Rattle.demand3.specs.Calls.Call.{portUp, portDown, setDelegation, leave, ask}
@@ -115,25 +115,23 @@ module _ (t : Tables) (card : Card) (l : Ledger) (a : Agree t card l) (p : ℕ) 
       (λ h. a)
 
   -- ---- leave
-  leave-row : (port : p < 64) (f : Flow) (r : Found) → found t f ≡ r → Goes t l (write l p (withFlows (l p) (without f (l p .flows)))) (leaveRow card p r)
-  unfolding leaveRow
-  leave-row port f Nothing e = a
-  leave-row port f (At k) e =
-      goes-by t l (write l p (withFlows (l p) (without f (l p .flows)))) (isActive (card .pool) p k) (becomes (withPool card (endedFlow (card .pool) p k))) (keeps card 10)
-      (λ h. flow-ends t card l a p port f k e)
+  leave-flow : (port : p < 64) (f : Flow) → Goes t l (write l p (withFlows (l p) (without f (l p .flows)))) (leaveFlow (t .channels) card p f)
+  unfolding leaveFlow
+  leave-flow port f =
+      goes-by t l (write l p (withFlows (l p) (without f (l p .flows)))) (hasFlow (t .channels) (card .pool) p f) (becomes (withPool card (endedFlow (t .channels) (card .pool) p f))) (keeps card 10)
+      (λ h. flow-ends t card l a p port f)
       (λ h. a)
 
   pub leave-step : (f : Flow) → Agree t (outcomeOf t card (leave p f) .card) (entered t l (seen ours t card (leave p f)))
   unfolding outcomeOf entered entry leaveOf
   leave-step f =
       let m = write l p (withFlows (l p) (without f (l p .flows))) in
-      let row = leaveRow card p (channelOf (t .channels) (card .«channel_count») f) in
-      let good = cond (goodFlow f) row (keeps card 8) in
+      let good = cond (goodFlow f) (leaveFlow (t .channels) card p f) (keeps card 8) in
       let up = cond (portAt card p .up) good (keeps card 6) in
       goes-by t l m (hasPort card p) up (keeps card 7)
       (λ h. goes-by t l m (portAt card p .up) good (keeps card 6)
-      (λ u. goes-by t l m (goodFlow f) row (keeps card 8)
-      (λ g. subst (λ (n : ℕ). Goes t l m (leaveRow card p (channelOf (t .channels) n f))) (sym (a .channels)) (leave-row (on-port card p h) f (found t f) refl))
+      (λ u. goes-by t l m (goodFlow f) (leaveFlow (t .channels) card p f) (keeps card 8)
+      (λ g. leave-flow (on-port card p h) f)
       (λ g. a)) (λ u. a)) (λ h. a)
 
   -- ---- ask

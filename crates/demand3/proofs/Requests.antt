@@ -20,7 +20,8 @@ use Rattle.circuits.specs.Circuits.{idAt}
 use Rattle.ports.specs.declared.Port.{Port}
 use Rattle.ports.specs.Ports.{freshPort, broughtUp, takenDown, closed, delegated, asked}
 use Rattle.ports.specs.Transactions.{takenFrom}
-use Rattle.pool.specs.Pool.{isActive}
+use Rattle.flows.specs.declared.Flow.{Flow}
+use Rattle.pool.specs.Pool.{isActive, hasFlow}
 use Rattle.card.specs.declared.Card.{Card}
 use Rattle.card.specs.Cards.{portAt, withPort}
 use Rattle.card.specs.Outcome.{Outcome, becomes, writes}
@@ -29,7 +30,7 @@ use Rattle.joins.specs.Asks.{askedOf}
 use Rattle.commands.specs.Orders.{Order, orderOf}
 use Rattle.commands.specs.Orders.Order.{ill, add, delete, deleteAll}
 use Rattle.commands.specs.declared.Ran.{Ran}
-use Rattle.commands.specs.Commands.{addNew, addRow, deleteRow, obeyed, ranOf}
+use Rattle.commands.specs.Commands.{addNew, addRow, deleteFlow, obeyed, ranOf}
 use Rattle.control.specs.Control.{failureOf, allGood, commandsFrom, commandsIn, controlled}
 use Rattle.transfers.specs.Transfers.{transferGives}
 use Rattle.demand3.specs.Calls.{Tables, Call, ours, outcomeOf, cardAfter, seen}
@@ -54,16 +55,15 @@ module _ (channels : List ℕ) (p : ℕ) where
     add-ports v (At k) =
         ran-by card (isActive (card .pool) p k) _ _ refl (ran-by card (eqb (admitNumber channels card (card .«add_cac») p k) 0) _ _ refl refl)
 
-    delete-ports : (r : Found) → deleteRow card p r .card .ports ≡ card .ports
-    unfolding deleteRow
-    delete-ports Nothing = refl
-    delete-ports (At k) = ran-by card (isActive (card .pool) p k) _ _ refl refl
+    delete-ports : (f : Flow) → deleteFlow channels card p f .card .ports ≡ card .ports
+    unfolding deleteFlow
+    delete-ports f = ran-by card (hasFlow channels (card .pool) p f) _ _ refl refl
 
     obeyed-ports : (o : Order) → obeyed channels card p o .card .ports ≡ card .ports
     unfolding obeyed
     obeyed-ports (ill code) = refl
     obeyed-ports (add f v) = add-ports v (channelOf channels (card .«channel_count») f)
-    obeyed-ports (delete f) = delete-ports (channelOf channels (card .«channel_count») f)
+    obeyed-ports (delete f) = delete-ports f
     obeyed-ports deleteAll = refl
 
   commands-ports : (h : Header) (id : List ℕ) (card : Card) (seq : ℕ) (cs : List (List ℕ)) → commandsFrom channels h id p card seq cs .card .ports ≡ card .ports

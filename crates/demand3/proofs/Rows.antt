@@ -1,6 +1,7 @@
 -- Held flows as rows of the channel table.
 --     listed-by, listed-at, unlisted-at      a listed flow has a row
---     row-is, row-same, row-flow, rate-row   its row, the row's flow and rate; rows are the same where the flows are
+--     row-is, row-flow, rate-row             its row, the row's flow and rate
+--     Tells, row-same, row-named             a choice of rows that tells a flow: its row, and the rows that are the flow's
 --     length-sum, holds-sum, charges-sum     figures of a list of held flows as sums over it
 --     unlisted-held                          a flow that is not listed is not held
 --     without-sum, without-holds, without-listed, without-once, without-few, without-charges      those held but one flow
@@ -21,7 +22,7 @@ use Rattle.flows.proofs.Same.{same-flow-eq, same-flow-refl}
 use Rattle.rows.specs.declared.Found.{Found}
 use Rattle.rows.specs.declared.Found.the-variants.{At, Nothing}
 use Rattle.rows.specs.Rows.{isNothing}
-use Rattle.channels.specs.Channels.{channelOf, channelAt, rateAt}
+use Rattle.channels.specs.Channels.{channelOf, channelAt, rateAt, isRow}
 use Rattle.channels.proofs.Channels.{channel-found}
 use Rattle.sums.specs.Sums.{sumBy}
 use Rattle.demand3.specs.Calls.{Tables}
@@ -46,9 +47,12 @@ unfoldable pub AllListed : Tables → List Held → Type 0
 AllListed t [] = Unit {0}
 AllListed t (h ∷ hs) = (listed t (h .flow) ≡ true) × AllListed t hs
 
--- the weights of a port's figures: how many flows, those of row k, the rates that are charged
+-- the weights of a port's figures: how many flows of a choice of rows, of row k, the rates that are charged
+abbrev pub selWeight : (ℕ → Bool) → ℕ → Bool → ℕ
+selWeight sel j c = cond (sel j) 1 0
+
 abbrev pub rowWeight : ℕ → ℕ → Bool → ℕ
-rowWeight k j c = cond (eqb j k) 1 0
+rowWeight k = selWeight (λ j. eqb j k)
 
 abbrev pub rateWeight : List ℕ → ℕ → Bool → ℕ
 rateWeight channels k c = cond c (rateAt channels k) 0
@@ -57,9 +61,9 @@ rateWeight channels k c = cond c (rateAt channels k) 0
 abbrev charge : Tables → Held → ℕ
 charge t h = cond (h .charged) (rateOf t (h .flow)) 0
 
--- a weight but for row k
-abbrev pub besides : ℕ → (ℕ → Bool → ℕ) → ℕ → Bool → ℕ
-besides k w j c = cond (eqb j k) 0 (w j c)
+-- a weight but for the rows of a choice
+abbrev pub besides : (ℕ → Bool) → (ℕ → Bool → ℕ) → ℕ → Bool → ℕ
+besides sel w j c = cond (sel j) 0 (w j c)
 
 module _ (t : Tables) where
   -- ---- one flow
@@ -97,9 +101,15 @@ module _ (t : Tables) where
     pub rate-row : listed t f ≡ true → rateAt (t .channels) (rowOf t f) ≡ rateOf t f
     rate-row h = listed-by h (λ k e. ap (rateAt (t .channels)) (row-is e) ∙ sym (rate-is e))
 
-  -- a listed flow g has the row of f exactly if it is f
+  -- of listed flows, those with a row of the choice are f
+  abbrev pub Tells : Flow → (ℕ → Bool) → Type 0
+  Tells f sel = (g : Flow) → listed t g ≡ true → sel (rowOf t g) ≡ sameFlow g f
+
   module _ (f : Flow) where
-    pub row-same : (k : ℕ) → found f ≡ At k → (g : Flow) → listed t g ≡ true → eqb (rowOf t g) k ≡ sameFlow g f
+    pub row-named : Tells f (isRow (t .channels) f)
+    row-named g h = ap (λ (x : Flow). sameFlow x f) (row-flow g h)
+
+    pub row-same : (k : ℕ) → found f ≡ At k → Tells f (λ j. eqb j k)
     unfolding rowOf rowBy
     row-same k e g h = same-by (eqb (rowOf t g) k) (sameFlow g f) there back
       where
@@ -136,24 +146,24 @@ module _ (t : Tables) where
       go ih true e = absurd (false≢true (sym u ∙ ap (listed t) (sym (same-flow-eq (h .flow) f e)) ∙ a .0))
       go ih false e = ih
 
-  module _ (f : Flow) (k : ℕ) (e : found f ≡ At k) where
-    pub holds-sum : (hs : List Held) → AllListed t hs → ltb 0 (flowSum t (rowWeight k) hs) ≡ holds f hs
+  module _ (f : Flow) (sel : ℕ → Bool) (tells : Tells f sel) where
+    pub holds-sum : (hs : List Held) → AllListed t hs → ltb 0 (flowSum t (selWeight sel) hs) ≡ holds f hs
     unfolding flowSum holds AllListed sumBy
     holds-sum [] a = refl
-    holds-sum (h ∷ hs) a = go (holds-sum hs (a .1)) (eqb (rowOf t (h .flow)) k) (row-same f k e (h .flow) (a .0))
+    holds-sum (h ∷ hs) a = go (holds-sum hs (a .1)) (sel (rowOf t (h .flow))) (tells (h .flow) (a .0))
       where
-        go : ltb 0 (flowSum t (rowWeight k) hs) ≡ holds f hs → (b : Bool) → b ≡ sameFlow (h .flow) f → ltb 0 (cond b 1 0 + flowSum t (rowWeight k) hs) ≡ (sameFlow (h .flow) f || holds f hs)
-        go ih true s = lt-ltb 0 (1 + flowSum t (rowWeight k) hs) (omega arith) ∙ ap (λ (b : Bool). b || holds f hs) s
-        go ih false s = ap (ltb 0) (zero-add (flowSum t (rowWeight k) hs)) ∙ ih ∙ ap (λ (b : Bool). b || holds f hs) s
+        go : ltb 0 (flowSum t (selWeight sel) hs) ≡ holds f hs → (b : Bool) → b ≡ sameFlow (h .flow) f → ltb 0 (cond b 1 0 + flowSum t (selWeight sel) hs) ≡ (sameFlow (h .flow) f || holds f hs)
+        go ih true s = lt-ltb 0 (1 + flowSum t (selWeight sel) hs) (omega arith) ∙ ap (λ (b : Bool). b || holds f hs) s
+        go ih false s = ap (ltb 0) (zero-add (flowSum t (selWeight sel) hs)) ∙ ih ∙ ap (λ (b : Bool). b || holds f hs) s
 
-    pub without-sum : (w : ℕ → Bool → ℕ) (hs : List Held) → AllListed t hs → flowSum t w (without f hs) ≡ flowSum t (besides k w) hs
+    pub without-sum : (w : ℕ → Bool → ℕ) (hs : List Held) → AllListed t hs → flowSum t w (without f hs) ≡ flowSum t (besides sel w) hs
     unfolding flowSum without AllListed sumBy
     without-sum w [] a = refl
-    without-sum w (h ∷ hs) a = go (without-sum w hs (a .1)) (sameFlow (h .flow) f) (row-same f k e (h .flow) (a .0))
+    without-sum w (h ∷ hs) a = go (without-sum w hs (a .1)) (sameFlow (h .flow) f) (tells (h .flow) (a .0))
       where
-        go : flowSum t w (without f hs) ≡ flowSum t (besides k w) hs → (b : Bool) → eqb (rowOf t (h .flow)) k ≡ b
-            → flowSum t w (cond b (without f hs) (h ∷ without f hs)) ≡ cond (eqb (rowOf t (h .flow)) k) 0 (w (rowOf t (h .flow)) (h .charged)) + flowSum t (besides k w) hs
-        go ih true s = rw s (ih ∙ sym (zero-add (flowSum t (besides k w) hs)))
+        go : flowSum t w (without f hs) ≡ flowSum t (besides sel w) hs → (b : Bool) → sel (rowOf t (h .flow)) ≡ b
+            → flowSum t w (cond b (without f hs) (h ∷ without f hs)) ≡ cond (sel (rowOf t (h .flow))) 0 (w (rowOf t (h .flow)) (h .charged)) + flowSum t (besides sel w) hs
+        go ih true s = rw s (ih ∙ sym (zero-add (flowSum t (besides sel w) hs)))
         go ih false s = rw s (ap (λ (n : ℕ). w (rowOf t (h .flow)) (h .charged) + n) ih)
 
   -- ---- those held but one flow

@@ -17,11 +17,11 @@ use Rattle.lists.specs.declared.Decision.the-variants.{Black, Grey, White, None
 use Rattle.lists.specs.Lists.{listDecision}
 use Rattle.ports.specs.Ports.{broughtUp, takenDown, closed, delegated, mayAsk, answers, within}
 use Rattle.pool.specs.declared.Pool.{Pool}
-use Rattle.pool.specs.Pool.{isActive, committedOf, endedAll}
+use Rattle.pool.specs.Pool.{isActive, hasFlow, committedOf, endedAll}
 use Rattle.card.specs.declared.Card.{Card}
 use Rattle.card.specs.Cards.{hasPort, portAt, withPort, withPool}
 use Rattle.card.specs.Outcome.{Outcome, keeps, becomes, writes}
-use Rattle.card.specs.Calls.{portUpOf, portDownOf, setDelegationOf, leaveRow, leaveOf}
+use Rattle.card.specs.Calls.{portUpOf, portDownOf, setDelegationOf, leaveFlow, leaveOf}
 use Rattle.joins.specs.Joins.{admitNumber, whiteOf, greyOf, byList, joinRow, joinOf}
 use Rattle.joins.specs.Asks.{askedOf, askOf}
 use Rattle.control.specs.Control.{controlled}
@@ -54,10 +54,9 @@ module _ (t : Tables) (card : Card) (x : Call) where
   by true v w f g = f refl
   by false v w f g = g
 
-  leave-way : (p : ℕ) (r : Found) → Way (leaveRow card p r)
-  unfolding leaveRow
-  leave-way p Nothing = stays 10
-  leave-way p (At k) = by (isActive (card .pool) p k) _ _ (λ e. flows _) (stays 10)
+  leave-way : (p : ℕ) (f : Flow) → Way (leaveFlow (t .channels) card p f)
+  unfolding leaveFlow
+  leave-way p f = by (hasFlow (t .channels) (card .pool) p f) _ _ (λ e. flows _) (stays 10)
 
   list-way : (p : ℕ) (f : Flow) (k : ℕ) (d : Decision) → Way (byList (t .ids) (t .channels) card p f k d)
   unfolding byList whiteOf
@@ -109,7 +108,7 @@ module _ (t : Tables) (card : Card) (x : Call) where
   way (leave p f) e =
       by (hasPort card p) _ _
       (λ h. by (portAt card p .up) _ _
-      (λ u. by (goodFlow f) _ _ (λ g. leave-way p (channelOf (t .channels) (card .«channel_count») f)) (stays 8))
+      (λ u. by (goodFlow f) _ _ (λ g. leave-way p f) (stays 8))
       (stays 6))
       (stays 7)
   way (ask p required preferred room) e =

@@ -6,17 +6,14 @@ use Prim.Native.Nat.{ℕ}
 use lib.Dec.{leb}
 use borrow.Author.Tests.{ne-eqb}
 use Rattle.flows.specs.declared.Flow.{Flow}
-use Rattle.flows.specs.Flows.{goodFlow}
-use Rattle.rows.specs.declared.Found.{Found}
-use Rattle.rows.specs.declared.Found.the-variants.{At, Nothing}
-use Rattle.channels.specs.Channels.{channelOf}
 use Rattle.ports.specs.Ports.{broughtUp, takenDown, delegated}
-use Rattle.pool.specs.Pool.{isActive, committedOf, endedFlow, endedAll}
+use Rattle.pool.specs.Pool.{committedOf, endedAll}
 use Rattle.card.specs.declared.Card.{Card}
 use Rattle.card.specs.Cards.{hasPort, portAt, withPort, withPool}
 use Rattle.card.specs.Outcome.{Outcome, keeps, becomes}
-use Rattle.card.specs.Calls.{portUpOf, portDownOf, setDelegationOf, leaveRow, leaveOf}
+use Rattle.card.specs.Calls.{portUpOf, portDownOf, setDelegationOf, leaveOf}
 use Rattle.card.proofs.Ends.{silent-by}
+use Rattle.card.proofs.Leaving.{leave-whole}
 use Rattle.messages.specs.Messages.{receivedOf}
 use Rattle.demand3.specs.Calls.{outcomeOf}
 use Rattle.exports.specs.declared.HostCall.{HostCall}
@@ -56,15 +53,5 @@ module _ (card : Card) (p : ℕ) where
         let set = becomes (withPort card p (delegated (portAt card p) amount)) in
         silent-by (hasPort card p) (cond enough set (keeps card 11)) (keeps card 7) (silent-by enough set (keeps card 11) refl refl) refl
 
-    row-silent : (x : Found) → leaveRow card p x .reply ≡ []
-    unfolding leaveRow
-    row-silent Nothing = refl
-    row-silent (At k) = silent-by (isActive (card .pool) p k) (becomes (withPool card (endedFlow (card .pool) p k))) (keeps card 10) refl refl
-
     pub leave-silent : (f : Flow) → leaveOf channels card p f .reply ≡ []
-    unfolding leaveOf
-    leave-silent f =
-        let row = channelOf channels (card .«channel_count») f in
-        let good = cond (goodFlow f) (leaveRow card p row) (keeps card 8) in
-        silent-by (hasPort card p) (cond (portAt card p .up) good (keeps card 6)) (keeps card 7)
-        (silent-by (portAt card p .up) good (keeps card 6) (silent-by (goodFlow f) (leaveRow card p row) (keeps card 8) (row-silent row) refl) refl) refl
+    leave-silent f = ap (λ (o : Outcome). o .reply) (leave-whole channels card p f)

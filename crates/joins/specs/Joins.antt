@@ -1,5 +1,6 @@
 -- Join, check by check in 01's order: 13, 7, 6, 8, 9, 1, then lists (3 or 2), 5, 4. Assumes nothing: these are definitions.
 use Prim.Native.Nat.{ℕ, _+_}
+use mathlib.Core.Path.{_≡_}
 use mathlib.Core.Bool.{Bool, cond}
 use mathlib.Core.List.{List}
 use lib.Dec.{eqb, leb, ltb}
@@ -40,6 +41,13 @@ fits channels card p k = leb (committedOf channels (card .pool) p + rateAt chann
 -- room, and then, under admission control, the rate: 5, 4, or 0
 unfoldable pub admitNumber : List ℕ → Card → Bool → ℕ → ℕ → ℕ
 admitNumber channels card cac p k = cond (hasRoom (card .pool) p) (cond cac (cond (fits channels card p k) 0 4) 0) 5
+
+-- the card's pool has these maps, and port p this delegation: what admission asks for
+pub record AsLent (card : Card) (owners rows : List ℕ) (charges : List Bool) (p amount : ℕ) : Type 0 where
+  pub owner : card .pool .owner ≡ owners
+  pub channel : card .pool .channel ≡ rows
+  pub charged : card .pool .charged ≡ charges
+  pub delegation : portAt card p .delegation ≡ amount
 
 -- white: the flow begins, charged exactly if White-List-CAC is on, with accounting 0
 unfoldable pub whiteOf : List ℕ → Card → ℕ → ℕ → Outcome

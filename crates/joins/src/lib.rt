@@ -3,12 +3,13 @@ use card::Card;
 use card::Done;
 use flows::Flow;
 use lists::Decision;
+use pool::Pool;
 use rows::Found;
 ghost use mathlib.Core.Path.{_≡_};
 ghost use Prim.Native.Nat.{_≤_, _<_};
 ghost use lib.ListN.{length};
 ghost use Rattle.card.specs.Outcome.{doneOf, Ends};
-ghost use Rattle.joins.specs.Joins.{fits, admitNumber, whiteOf, greyOf, joinRow, joinOf};
+ghost use Rattle.joins.specs.Joins.{fits, admitNumber, AsLent, whiteOf, greyOf, joinRow, joinOf};
 ghost use Rattle.joins.specs.Asks.{askedOf, askOf};
 
 pub fn join(
@@ -73,45 +74,87 @@ fn join_white(card: Card, channels: &[u32; 2816], p: u8, k: u8) -> Done
     ensures { λ r. ⌜ r ≡ doneOf (whiteOf (now (channels .entry)) card p k) ⌝ }
 {
     let mut c = card;
-    let number = admit_number(channels, c, c.white_cac, p, k);
+    let x = c.ports[p as usize];
+    let pool = c.pool;
+    let number = admit_number(
+        channels,
+        &pool.owner,
+        &pool.channel,
+        &pool.charged,
+        x.delegation,
+        c.white_cac,
+        p,
+        k,
+    );
     if number != 0 {
         return card::kept(c, number);
     }
-    let pool = c.pool;
-    c.pool = pool.begin(p, k, c.white_cac, 0);
+    let mut owner = pool.owner;
+    let mut channel = pool.channel;
+    let mut charged = pool.charged;
+    let mut accounting = pool.accounting;
+    pool::begin_in(
+        &mut owner,
+        &mut channel,
+        &mut charged,
+        &mut accounting,
+        p,
+        k,
+        c.white_cac,
+        0,
+    );
+    let begun = Pool {
+        owner,
+        channel,
+        charged,
+        accounting,
+    };
+    c.pool = begun;
     card::kept(c, 0)
 }
 
 // Room, and then, under admission control, the rate: 5, 4, or 0.
-pub fn admit_number(channels: &[u32; 2816], card: Card, cac: bool, p: u8, k: u8) -> u8
-    requires { ⌜ p < 64 ⌝ }
-    ensures { λ r. ⌜ r ≡ admitNumber (now (channels .entry)) card cac p k ⌝ }
+pub fn admit_number<'a>(
+    channels: &[u32; 2816],
+    owner: &'a [u8; 512],
+    channel: &'a [u8; 512],
+    charged: &'a [bool; 512],
+    delegation: u32,
+    cac: bool,
+    p: u8,
+    k: u8,
+) -> u8
+    ensures { λ r. ⌜ ((card : Card) → AsLent card (now (owner .entry)) (now (channel .entry)) (now (charged .entry)) p delegation → r ≡ admitNumber (now (channels .entry)) card cac p k) ⌝ }
 {
-    let pool = card.pool;
-    if !pool::has_room(&pool.owner, p) {
+    if !pool::has_room(owner, p) {
         return 5;
     }
     if !cac {
         return 0;
     }
-    if rate_fits(channels, card, p, k) {
+    if rate_fits(channels, owner, channel, charged, delegation, p, k) {
         return 0;
     }
     4
 }
 
 // No sum is made, so that none can pass its type.
-fn rate_fits(channels: &[u32; 2816], card: Card, p: u8, k: u8) -> bool
-    requires { ⌜ p < 64 ⌝ }
-    ensures { λ r. ⌜ r ≡ fits (now (channels .entry)) card p k ⌝ }
+fn rate_fits<'a>(
+    channels: &[u32; 2816],
+    owner: &'a [u8; 512],
+    channel: &'a [u8; 512],
+    charged: &'a [bool; 512],
+    delegation: u32,
+    p: u8,
+    k: u8,
+) -> bool
+    ensures { λ r. ⌜ ((card : Card) → AsLent card (now (owner .entry)) (now (channel .entry)) (now (charged .entry)) p delegation → r ≡ fits (now (channels .entry)) card p k) ⌝ }
 {
-    let x = card.ports[p as usize];
     let rate = channels::rate_at(channels, k);
-    if x.delegation < rate {
+    if delegation < rate {
         return false;
     }
-    let pool = card.pool;
-    card::committed_in(channels, pool, p) <= (x.delegation - rate) as u64
+    pool::committed_of(channels, owner, channel, charged, p) <= (delegation - rate) as u64
 }
 
 fn join_grey(card: Card, ids: &[u8; 4096], p: u8, f: Flow, reply: &mut [u8]) -> Done

@@ -1,5 +1,5 @@
 -- The listing of a port's flows.
---     rows-mine, rows-other      one turn of the loop
+--     rows-mine, rows-skip       one turn of the loop: a record of the port, and on to its next
 --     rows-all, rows-cut         its end, and its end at the sixteenth
 --     rows-sum, rows-length      what is listed is what the port has
 -- Assumes nothing.
@@ -14,9 +14,10 @@ use Rattle.octets.specs.Writing.{over, Wrote}
 use Rattle.octets.proofs.Writing.{over-none}
 use Rattle.sums.specs.Sums.{pickTo, sumBy}
 use Rattle.sums.proofs.Picks.{pickTo-zero, pickTo-take, pickTo-pass, pickTo-start, sumBy-pick, length-pick}
-use Rattle.pool.specs.Pool.{isOf, sumOver, poolSum, countOf, rowsIn, rowsOf, listed}
+use Rattle.pool.specs.Pool.{isOf, Next, sumOver, poolSum, countOf, rowsIn, rowsOf, listed}
 use Rattle.pool.specs.declared.Pool.{Pool}
 use Rattle.pool.specs.declared.Rows.{Rows}
+use Rattle.pool.proofs.Nexts.{kept-over}
 
 -- the channels of the port's records before record i
 abbrev pub rowsBefore : List ℕ → List ℕ → ℕ → ℕ → List ℕ
@@ -51,10 +52,12 @@ module _ (owner channel : List ℕ) (p i : ℕ) {count : ℕ} {rows : List ℕ} 
             ∙ over-more w zeros v (omega (arith, inv .size, length-replicate {A = ℕ} 16 0)) ∙ ap (λ (z : List ℕ). over z zeros) (sym e);
       }
 
-  pub rows-other : (getD owner i 0 ≡ p → ⊥) → Wrote (rowsBefore owner channel p (i + 1)) count zeros rows
-  rows-other t =
-      let e : rowsBefore owner channel p (i + 1) ≡ rowsBefore owner channel p i = pickTo-pass (isOf owner p) (λ j. getD channel j 0) i (ne-eqb (getD owner i 0) p t) in
-      record { size = inv .size ∙ ap length (sym e); text = inv .text ∙ ap (λ (w : List ℕ). over w zeros) (sym e) }
+  pub rows-skip : {r : ℕ} → Next owner p i r → Wrote (rowsBefore owner channel p r) count zeros rows
+  rows-skip {r} x =
+      let pass : (j : ℕ) → (getD owner j 0 ≡ p → ⊥) → rowsBefore owner channel p (j + 1) ≡ rowsBefore owner channel p j =
+      λ j t. pickTo-pass (isOf owner p) (λ h. getD channel h 0) j (ne-eqb (getD owner j 0) p t) in
+      let e : rowsBefore owner channel p i ≡ rowsBefore owner channel p r = kept-over (rowsBefore owner channel p) i r (x .reached) (λ j l m. sym (pass j (x .others j l m))) in
+      record { size = inv .size ∙ ap length e; text = inv .text ∙ ap (λ (w : List ℕ). over w zeros) e }
 
   -- what was collected is listed, if it is the beginning of what is owed
   is-listed : take 16 (rowsIn owner channel p) ≡ rowsBefore owner channel p i → _≡_ {A = Rows} (record { count = count; rows = rows }) (listed (rowsIn owner channel p))

@@ -3,12 +3,14 @@ use Prim.Native.Nat.{ℕ, _+_, _≤_, _<_}
 use mathlib.Core.Path.{_≡_, refl}
 use mathlib.Core.Bool.{Bool, true, false, cond, _&&_, _||_}
 use mathlib.Core.List.{List}
+use native.Mathlib.Omega.{arith}
 use lib.ListN.{length, getD, set}
 use lib.Dec.{eqb}
 use borrow.Author.Tests.{eq-eqb, ne-eqb}
 use Rattle.sums.specs.Sums.{mapTo}
 use Rattle.sums.proofs.Maps.{sweep, sweep-start, sweep-read, sweep-set, sweep-keep, sweep-end}
-use Rattle.pool.specs.Pool.{isOf, isOne}
+use Rattle.pool.specs.Pool.{isOf, Next, isOne}
+use Rattle.pool.proofs.Nexts.{kept-over}
 use Rattle.pool.specs.declared.Pool.{Pool}
 
 module _ (l : List ℕ) (v : ℕ) (test : ℕ → Bool) where
@@ -24,8 +26,9 @@ module _ (l : List ℕ) (v : ℕ) (test : ℕ → Bool) where
   mark-start h = sweep-start 512 l 0 mark h
 
   module _ (i : ℕ) where
-    pub mark-read : i < 512 → getD (marked i) i 0 ≡ getD l i 0
-    mark-read h = sweep-read 512 (λ j. getD l j 0) mark i 0 h
+    -- what is not done yet is as it was
+    pub mark-read : (j : ℕ) → i ≤ j → j < 512 → getD (marked i) j 0 ≡ getD l j 0
+    mark-read j m h = sweep-read 512 (λ k. getD l k 0) mark i 0 j m h
 
     pub mark-on : i < 512 → test i ≡ true → set (marked i) i v ≡ marked (i + 1)
     mark-on h t = sweep-set 512 (λ j. getD l j 0) mark i v h (simp t)
@@ -51,17 +54,8 @@ module _ (pool : Pool) (p : ℕ) (sel : ℕ → Bool) (i : ℕ) where
       go true b e = e
       go false b e = refl
 
--- all channels, or channel k
-module _ (all : Bool) (j k : ℕ) where
-  pub sel-all : all ≡ true → (all || eqb j k) ≡ true
-  sel-all e = simp e
-
-  pub sel-one : j ≡ k → (all || eqb j k) ≡ true
-  sel-one e = go all
-    where
-      go : (b : Bool) → (b || eqb j k) ≡ true
-      go true = refl
-      go false = eq-eqb j k e
-
-  pub sel-none : all ≡ false → (j ≡ k → ⊥) → (all || eqb j k) ≡ false
-  sel-none e n = simp (e, ne-eqb j k n)
+-- on to the port's next record
+pub mark-skip : (pool : Pool) (p : ℕ) (sel : ℕ → Bool) (l : List ℕ) (v i : ℕ) {r : ℕ} → Next (pool .owner) p i r → marked l v (isOne pool p sel) i ≡ marked l v (isOne pool p sel) r
+mark-skip pool p sel l v i {r} x =
+    kept-over (marked l v (isOne pool p sel)) i r (x .reached)
+    (λ j a b. mark-off l v (isOne pool p sel) j (omega (arith, x .most)) (not-port pool p sel j (x .others j a b)))

@@ -2,6 +2,7 @@
 -- accounting (`recordSum`); count, committed amount and membership are instances, by computation (`count-is`, `committed-is`, `holds-is`).
 --     sum-ext, sum-mono, sum-add           sums over one port's records
 --     free-at, free-first                  the record that `freeOf` gives is free, and no free record stands before it
+--     free-is                              and it is the first that a search from record 0 on comes to
 --     pool-filled, pool-filled-other       in whichever free record a flow begins, port p has one flow more, of that channel, charge and
 --                                          accounting, and the other ports what they had
 --     pool-began, pool-began-other         so in the record that the program takes
@@ -26,7 +27,7 @@ use Rattle.rows.specs.declared.Found.the-variants.{At, Nothing}
 use Rattle.rows.proofs.Rows.{FoundAt, found-at, found-none}
 use Rattle.sums.proofs.Sums.{sumTo-ext, sumTo-mono, sumTo-add, sumTo-change, sumTo-none}
 use Rattle.sums.proofs.Maps.{mapTo-getD}
-use Rattle.pool.specs.Pool.{isOf, sumOver, recordSum, poolSum, countOf, committedOf, holdsOf, free, orSize, freeIn, freeOf, freshPool, filled, began, isOne, ended, accounted}
+use Rattle.pool.specs.Pool.{isOf, Next, sumOver, recordSum, poolSum, countOf, committedOf, holdsOf, free, orSize, freeIn, freeOf, freshPool, filled, began, isOne, ended, accounted}
 use Rattle.pool.specs.declared.Pool.{Pool}
 use Rattle.pool.proofs.Whole.{Whole}
 
@@ -95,6 +96,22 @@ module _ (owner : List ℕ) where
           free-by
           (λ i s f. absurd (false≢true (sym (f .first j (omega arith)) ∙ free-j)))
           (λ s f. absurd (false≢true (sym (f j l) ∙ free-j)))
+
+  free-most : freeIn owner ≤ 512
+  free-most = free-by (λ i e f. omega (arith, f .below)) (λ e f. omega arith)
+
+  pub free-is : {r : ℕ} → Next owner free 0 r → r ≡ freeIn owner
+  free-is {r} x = omega (arith, low (ltb (freeIn owner) r) refl, high (ltb r 512) refl)
+    where
+      low : (b : Bool) → ltb (freeIn owner) r ≡ b → r ≤ freeIn owner
+      low false e = ltb-false (freeIn owner) r e
+      low true e =
+          let l = ltb-true (freeIn owner) r e in
+          absurd (x .others (freeIn owner) (omega arith) l (free-at (omega (arith, x .most))))
+
+      high : (b : Bool) → ltb r 512 ≡ b → freeIn owner ≤ r
+      high true e = let l = ltb-true r 512 e in free-first r l (x .mine l)
+      high false e = omega (arith, ltb-false r 512 e, free-most)
 
 -- ---- a record of another port weighs nothing
 module _ (owner : List ℕ) (q i : ℕ) (x : ℕ) where

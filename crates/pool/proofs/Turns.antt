@@ -1,5 +1,5 @@
 -- One turn of each loop over the records, its beginning and its end.
---     sum-start, sum-mine, sum-other, sum-none, sum-end      a sum over a port's records
+--     sum-start, sum-mine, sum-other, sum-none, sum-skip, sum-end      a sum over a port's records
 --     sum-at                                       a record's part is at most the sum
 --     counts-start, counts-mine, counts-other, counts-end     the count of each port, in one pass
 -- Assumes nothing.
@@ -13,7 +13,8 @@ use borrow.Author.Tests.{eq-eqb, ne-eqb}
 use Rattle.sums.specs.Sums.{sumTo, mapTo}
 use Rattle.sums.proofs.Sums.{sumTo-zero, sumTo-suc, sumTo-at, sumTo-mono, sumTo-const, test-most}
 use Rattle.sums.proofs.Maps.{mapTo-getD, mapTo-ext, mapTo-const, mapTo-set}
-use Rattle.pool.specs.Pool.{isOf, sumOver, countIn}
+use Rattle.pool.specs.Pool.{isOf, Next, sumOver, countIn}
+use Rattle.pool.proofs.Nexts.{kept-over}
 
 -- the sum over port p's records before record i
 abbrev pub sumBefore : List ℕ → ℕ → (ℕ → ℕ) → ℕ → ℕ
@@ -49,6 +50,10 @@ module _ (owner : List ℕ) (p : ℕ) (f : ℕ → ℕ) where
     pub sum-at : i < 512 → getD owner i 0 ≡ p → f i ≤ sumOver owner p f
     unfolding sumOver
     sum-at l t = simp (eq-eqb (getD owner i 0) p t) at (sumTo-at 512 (λ j. cond (isOf owner p j) (f j) 0) i l)
+
+  -- on to the port's next record
+  pub sum-skip : (i : ℕ) {n r : ℕ} → n ≡ sumBefore owner p f i → Next owner p i r → n ≡ sumBefore owner p f r
+  sum-skip i {n} {r} e x = e ∙ kept-over (sumBefore owner p f) i r (x .reached) (λ j l m. sum-other j refl (x .others j l m))
 
 -- ---- the count of each port
 abbrev pub ones : ℕ → ℕ

@@ -9,15 +9,10 @@ use native.Mathlib.Omega.{arith}
 use lib.ListN.{length, getD, set, length-set, length-replicate}
 use lib.Seq.{set-out}
 use Rattle.sums.proofs.Maps.{mapTo-length}
+pub use Rattle.pool.specs.Pool.{Whole}
 use Rattle.pool.specs.Pool.{free, freeOf, freshPool, began, isOne, ended, accounted}
 use Rattle.pool.specs.declared.Pool.{Pool}
 use lib.Dec.{eqb}
-
-pub record Whole (pool : Pool) : Type 0 where
-  pub owner : length (pool .owner) ≡ 512
-  pub channel : length (pool .channel) ≡ 512
-  pub charged : length (pool .charged) ≡ 512
-  pub accounting : length (pool .accounting) ≡ 512
 
 pub whole-fresh : Whole freshPool
 unfolding freshPool

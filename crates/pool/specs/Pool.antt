@@ -1,11 +1,13 @@
 -- The 512 flow records (01, "Flows, lists, records"). Assumes nothing: these are definitions.
 -- A figure that a function reads off lent maps is defined on the maps (`countIn owner`), and of a pool it is that of its maps.
-use Prim.Native.Nat.{ℕ, _-_}
+use Prim.Native.Nat.{ℕ, _-_, _≤_, _<_}
+use mathlib.Core.Path.{_≡_}
 use mathlib.Core.Bool.{Bool, true, false, cond, _&&_, _||_}
-use mathlib.Core.List.{List}
+use mathlib.Core.List.{List, []}
 use lib.ListN.{length, getD, set, take, replicate}
 use lib.Dec.{eqb, ltb}
-use Rattle.channels.specs.Channels.{rateAt}
+use Rattle.flows.specs.declared.Flow.{Flow}
+use Rattle.channels.specs.Channels.{rateAt, isRow}
 use Rattle.rows.specs.Rows.{firstOf}
 use Rattle.rows.specs.declared.Found.{Found}
 use Rattle.rows.specs.declared.Found.the-variants.{At, Nothing}
@@ -19,6 +21,13 @@ use Rattle.pool.specs.declared.Rows.{Rows}
 -- record i is port p's
 abbrev pub isOf : List ℕ → ℕ → ℕ → Bool
 isOf owner p i = eqb (getD owner i 0) p
+
+-- record r is the first of port p's from record `from` on, or r is 512 where there is none
+pub record Next (owner : List ℕ) (p from r : ℕ) : Type 0 where
+  pub reached : from ≤ r
+  pub most : r ≤ 512
+  pub mine : r < 512 → getD owner r 0 ≡ p
+  pub others : (i : ℕ) → from ≤ i → i < r → getD owner i 0 ≡ p → ⊥
 
 -- the sum over port p's records of what f gives for each; shut, so that 512 terms are never written out
 unfoldable pub sumOver : List ℕ → ℕ → (ℕ → ℕ) → ℕ
@@ -46,13 +55,21 @@ countIn owner p = sumOver owner p (λ i. 1)
 abbrev pub committedIn : List ℕ → List ℕ → List ℕ → List Bool → ℕ → ℕ
 committedIn table owner channel charged p = sumOver owner p (λ i. cond (getD charged i false) (rateAt table (getD channel i 0)) 0)
 
--- how many of the port's records hold channel k: on cards that calls reach, 0 or 1
+-- how many of the port's records hold a channel that is selected
+abbrev pub holdsWhere : List ℕ → List ℕ → ℕ → (ℕ → Bool) → ℕ
+holdsWhere owner channel p sel = sumOver owner p (λ i. cond (sel (getD channel i 0)) 1 0)
+
+-- the port has a flow of a selected channel
+abbrev pub activeWhere : List ℕ → List ℕ → ℕ → (ℕ → Bool) → Bool
+activeWhere owner channel p sel = ltb 0 (holdsWhere owner channel p sel)
+
+-- of channel k: on cards that calls reach, 0 or 1
 abbrev pub holdsIn : List ℕ → List ℕ → ℕ → ℕ → ℕ
-holdsIn owner channel p k = sumOver owner p (λ i. cond (eqb (getD channel i 0) k) 1 0)
+holdsIn owner channel p k = holdsWhere owner channel p (λ j. eqb j k)
 
 -- the port has the flow of channel k
 abbrev pub activeIn : List ℕ → List ℕ → ℕ → ℕ → Bool
-activeIn owner channel p k = ltb 0 (holdsIn owner channel p k)
+activeIn owner channel p k = activeWhere owner channel p (λ j. eqb j k)
 
 -- "A flow beyond a port's fourth is an extra": the extras of all ports
 abbrev pub extrasIn : List ℕ → ℕ
@@ -102,6 +119,10 @@ holdsOf pool p k = holdsIn (pool .owner) (pool .channel) p k
 abbrev pub isActive : Pool → ℕ → ℕ → Bool
 isActive pool p k = activeIn (pool .owner) (pool .channel) p k
 
+-- the port has the flow with this address
+abbrev pub hasFlow : List ℕ → Pool → ℕ → Flow → Bool
+hasFlow table pool p f = activeWhere (pool .owner) (pool .channel) p (isRow table f)
+
 abbrev pub extrasOf : Pool → ℕ
 extrasOf pool = extrasIn (pool .owner)
 
@@ -147,9 +168,9 @@ isOne pool p sel i = isOf (pool .owner) p i && sel (getD (pool .channel) i 0)
 unfoldable pub ended : Pool → ℕ → (ℕ → Bool) → Pool
 ended pool p sel = withOwner pool (mapTo 512 (λ i. cond (isOne pool p sel i) free (getD (pool .owner) i 0)))
 
--- one flow
-abbrev pub endedFlow : Pool → ℕ → ℕ → Pool
-endedFlow pool p k = ended pool p (λ j. eqb j k)
+-- the flow with this address: of the channels whose row is the flow's
+abbrev pub endedFlow : List ℕ → Pool → ℕ → Flow → Pool
+endedFlow table pool p f = ended pool p (isRow table f)
 
 -- every flow of the port
 abbrev pub endedAll : Pool → ℕ → Pool
@@ -158,3 +179,29 @@ endedAll pool p = ended pool p (λ j. true)
 -- "succeed and set accounting only": of port p's flow of channel k
 unfoldable pub accounted : Pool → ℕ → ℕ → ℕ → Pool
 accounted pool p k value = withAccounting pool (mapTo 512 (λ i. cond (isOne pool p (λ j. eqb j k) i) value (getD (pool .accounting) i 0)))
+
+-- ---- the same of maps that are lent
+
+-- the pool of four maps
+abbrev pub poolOf : List ℕ → List ℕ → List Bool → List ℕ → Pool
+poolOf owner channel charged accounting = record { owner = owner; channel = channel; charged = charged; accounting = accounting }
+
+-- each map has its 512 records
+pub record Whole (pool : Pool) : Type 0 where
+  pub owner : length (pool .owner) ≡ 512
+  pub channel : length (pool .channel) ≡ 512
+  pub charged : length (pool .charged) ≡ 512
+  pub accounting : length (pool .accounting) ≡ 512
+
+-- the owner map of `ended`
+abbrev pub endedIn : List ℕ → List ℕ → ℕ → (ℕ → Bool) → List ℕ
+endedIn owner channel p sel = mapTo 512 (λ i. cond (isOf owner p i && sel (getD channel i 0)) free (getD owner i 0))
+
+-- and of `endedAll`, which asks for no channel
+abbrev pub endedAllIn : List ℕ → ℕ → List ℕ
+endedAllIn owner p = endedIn owner [] p (λ j. true)
+
+-- the accounting map of `accounted`
+abbrev pub accountedIn : List ℕ → List ℕ → List ℕ → ℕ → ℕ → ℕ → List ℕ
+accountedIn accounting owner channel p k value =
+    mapTo 512 (λ i. cond (isOf owner p i && eqb (getD channel i 0) k) value (getD accounting i 0))

@@ -1,12 +1,17 @@
 // The 512 flow records: which port each belongs to, its channel, whether it is charged, and its accounting.
 // No figure is stored: counts, extras and committed amounts are read off the records.
 ghost use mathlib.Core.Path.{_≡_};
-ghost use mathlib.Core.Bool.{_||_};
-ghost use Prim.Native.Nat.{_<_};
+ghost use Prim.Native.Nat.{_+_, _<_, _≤_};
+ghost use lib.ListN.{length};
 ghost use lib.Dec.{eqb};
+ghost use Rattle.rows.specs.Rows.{noneOf};
 ghost use Rattle.sums.specs.Sums.{mapTo};
-ghost use Rattle.pool.specs.Pool.{countIn, committedIn, activeIn, extrasIn, freeIn, roomIn, freshPool, began, ended, endedFlow, endedAll, accounted, rowsIn, listed};
+ghost use Rattle.channels.specs.Channels.{isRow};
+ghost use Rattle.pool.specs.Pool.{isOf, Next, countIn, committedIn, activeIn, activeWhere, extrasIn, freeIn, roomIn, freshPool, began, endedAll, rowsIn, listed, poolOf, Whole, endedIn, endedAllIn, accountedIn};
+use channels::channel_at;
 use channels::rate_at;
+use flows::Flow;
+use flows::same_flow;
 
 // No port has this number: a record with it as its owner is free.
 pub const FREE: u8 = 255;
@@ -39,63 +44,102 @@ impl Pool {
         }
     }
 
-    // A flow begins in the first free record. Where none is free nothing begins: `has_room` is asked first.
-    pub fn begin(mut self, p: u8, k: u8, charged: bool, accounting: u8) -> Pool
-        ensures { λ r. ⌜ r ≡ began self p k charged accounting ⌝ }
-    {
-        let i = free_of(&self.owner);
-        if 512 <= i {
-            return self;
-        }
-        self.owner[i] = p;
-        self.channel[i] = k;
-        self.charged[i] = charged;
-        self.accounting[i] = accounting;
-        self
-    }
-
-    // Leave, and Delete: the flow ends whoever began it.
-    pub fn end_flow(self, p: u8, k: u8) -> Pool
-        ensures { λ r. ⌜ r ≡ endedFlow self p k ⌝ }
-    {
-        self.end_where(p, false, k)
-    }
-
-    // Delete All, and port down.
-    pub fn end_all(self, p: u8) -> Pool
+    // Port down.
+    pub fn end_all(mut self, p: u8) -> Pool
         ensures { λ r. ⌜ r ≡ endedAll self p ⌝ }
     {
-        self.end_where(p, true, 0)
-    }
-
-    fn end_where(mut self, p: u8, all: bool, k: u8) -> Pool
-        ensures { λ r. ⌜ r ≡ ended self p (λ j. all || eqb j k) ⌝ }
-    {
-        let mut i: usize = 0;
-        while i < 512 {
-            if self.owner[i] == p {
-                if all || self.channel[i] == k {
-                    self.owner[i] = FREE;
-                }
-            }
-            i += 1;
-        }
+        let mut owner = self.owner;
+        end_all_in(&mut owner, p);
+        self.owner = owner;
         self
     }
+}
 
-    // An Add of an active flow: neither charge nor room is touched.
-    pub fn set_accounting(mut self, p: u8, k: u8, value: u8) -> Pool
-        ensures { λ r. ⌜ r ≡ accounted self p k value ⌝ }
-    {
-        let mut i: usize = 0;
-        while i < 512 {
-            if self.owner[i] == p && self.channel[i] == k {
-                self.accounting[i] = value;
-            }
-            i += 1;
-        }
-        self
+// ---- flows begin and end in maps that are lent
+
+// A flow begins in the first free record. Where none is free nothing begins: `has_room` is asked first.
+pub fn begin_in(
+    owner: &mut [u8; 512],
+    channel: &mut [u8; 512],
+    charged: &mut [bool; 512],
+    accounting: &mut [u8; 512],
+    p: u8,
+    k: u8,
+    c: bool,
+    a: u8,
+)
+    requires { ⌜ Whole (poolOf (now owner) (now channel) (now charged) (now accounting)) ⌝ }
+    ensures { λ _. ⌜ poolOf (now (owner .exit)) (now (channel .exit)) (now (charged .exit)) (now (accounting .exit)) ≡ began (poolOf (now (owner .entry)) (now (channel .entry)) (now (charged .entry)) (now (accounting .entry))) p k c a ⌝ }
+{
+    let i = free_of(owner);
+    if 512 <= i {
+        return;
     }
+    owner[i] = p;
+    channel[i] = k;
+    charged[i] = c;
+    accounting[i] = a;
+}
+
+// Leave and Delete: the port's flow with this address ends, whoever began it. The answer is whether there was one.
+pub fn end_in(
+    owner: &mut [u8; 512],
+    channel: &[u8; 512],
+    channels: &[u32; 2816],
+    p: u8,
+    f: Flow,
+) -> bool
+    requires { ⌜ length (now owner) ≡ 512 ⌝ }
+    ensures was { λ r. ⌜ r ≡ activeWhere (now (owner .entry)) (now (channel .entry)) p (isRow (now (channels .entry)) f) ⌝ }
+    ensures ends { λ _. ⌜ now (owner .exit) ≡ endedIn (now (owner .entry)) (now (channel .entry)) p (isRow (now (channels .entry)) f) ⌝ }
+{
+    let mut found = false;
+    let mut i = next_of(owner, p, 0);
+    while i < 512 {
+        if same_flow(channel_at(channels, channel[i]), f) {
+            owner[i] = FREE;
+            found = true;
+        }
+        i = next_of(owner, p, i + 1);
+    }
+    found
+}
+
+// Delete All, and port down.
+pub fn end_all_in(owner: &mut [u8; 512], p: u8)
+    requires { ⌜ length (now owner) ≡ 512 ⌝ }
+    ensures { λ _. ⌜ now (owner .exit) ≡ endedAllIn (now (owner .entry)) p ⌝ }
+{
+    let mut i = next_of(owner, p, 0);
+    while i < 512 {
+        owner[i] = FREE;
+        i = next_of(owner, p, i + 1);
+    }
+}
+
+// An Add of an active flow: neither charge nor room is touched. The answer is whether it is active.
+pub fn account_in<'a>(
+    accounting: &mut [u8; 512],
+    owner: &'a [u8; 512],
+    channel: &'a [u8; 512],
+    p: u8,
+    k: u8,
+    value: u8,
+) -> bool
+    requires { ⌜ length (now accounting) ≡ 512 ⌝ }
+    ensures is { λ r. ⌜ r ≡ activeIn (now (owner .entry)) (now (channel .entry)) p k ⌝ }
+    ensures sets { λ _. ⌜ now (accounting .exit) ≡ accountedIn (now (accounting .entry)) (now (owner .entry)) (now (channel .entry)) p k value ⌝ }
+{
+    let mut found = false;
+    let mut at = next_of(owner, p, 0);
+    while at < 512 {
+        if channel[at] == k {
+            accounting[at] = value;
+            found = true;
+        }
+        at = next_of(owner, p, at + 1);
+    }
+    found
 }
 
 // ---- figures, read off maps that are lent
@@ -105,12 +149,10 @@ pub fn count_of(owner: &[u8; 512], p: u8) -> usize
     ensures { λ r. ⌜ r ≡ countIn (now (owner .entry)) p ⌝ }
 {
     let mut n: usize = 0;
-    let mut i: usize = 0;
+    let mut i = next_of(owner, p, 0);
     while i < 512 {
-        if owner[i] == p {
-            n += 1;
-        }
-        i += 1;
+        n += 1;
+        i = next_of(owner, p, i + 1);
     }
     n
 }
@@ -119,14 +161,12 @@ pub fn count_of(owner: &[u8; 512], p: u8) -> usize
 pub fn is_active<'a>(owner: &'a [u8; 512], channel: &'a [u8; 512], p: u8, k: u8) -> bool
     ensures { λ r. ⌜ r ≡ activeIn (now (owner .entry)) (now (channel .entry)) p k ⌝ }
 {
-    let mut i: usize = 0;
+    let mut i = next_of(owner, p, 0);
     while i < 512 {
-        if owner[i] == p {
-            if channel[i] == k {
-                return true;
-            }
+        if channel[i] == k {
+            return true;
         }
-        i += 1;
+        i = next_of(owner, p, i + 1);
     }
     false
 }
@@ -142,14 +182,12 @@ pub fn committed_of<'a>(
     ensures { λ r. ⌜ r ≡ committedIn (now (channels .entry)) (now (owner .entry)) (now (channel .entry)) (now (charged .entry)) p ⌝ }
 {
     let mut sum: u64 = 0;
-    let mut i: usize = 0;
+    let mut i = next_of(owner, p, 0);
     while i < 512 {
-        if owner[i] == p {
-            if charged[i] {
-                sum += wide(rate_at(channels, channel[i]));
-            }
+        if charged[i] {
+            sum += wide(rate_at(channels, channel[i]));
         }
-        i += 1;
+        i = next_of(owner, p, i + 1);
     }
     sum
 }
@@ -166,16 +204,14 @@ pub fn rows_of<'a>(owner: &'a [u8; 512], channel: &'a [u8; 512], p: u8) -> Rows
 {
     let mut rows = [0u8; 16];
     let mut count: usize = 0;
-    let mut i: usize = 0;
+    let mut i = next_of(owner, p, 0);
     while i < 512 {
-        if owner[i] == p {
-            if 16 <= count {
-                return Rows { count, rows };
-            }
-            rows[count] = channel[i];
-            count += 1;
+        if 16 <= count {
+            return Rows { count, rows };
         }
-        i += 1;
+        rows[count] = channel[i];
+        count += 1;
+        i = next_of(owner, p, i + 1);
     }
     Rows { count, rows }
 }
@@ -243,12 +279,44 @@ fn index(x: u8) -> usize
 fn free_of(owner: &[u8; 512]) -> usize
     ensures { λ r. ⌜ r ≡ freeIn (now (owner .entry)) ⌝ }
 {
-    let mut i: usize = 0;
+    next_of(owner, FREE, 0)
+}
+
+// ---- from one of a port's records to the next
+
+// The port's first record from `from` on, or 512: records of others are passed over 64 at a time, then 16, then singly.
+fn next_of(owner: &[u8; 512], p: u8, from: usize) -> usize
+    requires { ⌜ from ≤ 512 ⌝ }
+    ensures { λ r. ⌜ Next (now (owner .entry)) p from r ⌝ }
+{
+    let mut i = from;
+    while i <= 448 && none_of(owner, p, i, 64) {
+        i += 64;
+    }
+    while i <= 496 && none_of(owner, p, i, 16) {
+        i += 16;
+    }
     while i < 512 {
-        if owner[i] == FREE {
+        if owner[i] == p {
             return i;
         }
         i += 1;
     }
     i
+}
+
+// None of the n records from `at` on is the port's. There is no early end, so that the compiler compares 16 at once.
+fn none_of(owner: &[u8; 512], p: u8, at: usize, n: usize) -> bool
+    requires { ⌜ at + n ≤ 512 ⌝ }
+    ensures { λ r. ⌜ r ≡ noneOf n (λ i. isOf (now (owner .entry)) p (at + i)) ⌝ }
+{
+    let mut none = true;
+    let mut i: usize = 0;
+    while i < n {
+        if owner[at + i] == p {
+            none = false;
+        }
+        i += 1;
+    }
+    none
 }

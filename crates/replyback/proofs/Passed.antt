@@ -19,7 +19,8 @@ use Rattle.channels.specs.Channels.{channelOf}
 use Rattle.writers.specs.Tlvs.{bareOf}
 use Rattle.writers.proofs.Tlvs.{length-tlv}
 use Rattle.pool.specs.declared.Pool.{Pool}
-use Rattle.pool.specs.Pool.{isActive, rowsOf}
+use Rattle.flows.specs.declared.Flow.{Flow}
+use Rattle.pool.specs.Pool.{isActive, hasFlow, rowsOf}
 use Rattle.card.specs.declared.Card.{Card}
 use Rattle.joins.specs.Joins.{admitNumber}
 use Rattle.listing.specs.Listing.{rowBefore, placed, placedAll, inOrder, rowsInOrder}
@@ -27,7 +28,7 @@ use Rattle.checks.specs.Named.{beside, needed, missing, fromFault}
 use Rattle.commands.specs.declared.Ran.{Ran}
 use Rattle.commands.specs.Orders.{Order, shapeOk, flowContent, flowOrder, orderOf}
 use Rattle.commands.specs.Orders.Order.{ill}
-use Rattle.commands.specs.Commands.{addNew, addRow, deleteRow, obeyed, ranOf}
+use Rattle.commands.specs.Commands.{addNew, addRow, deleteFlow, obeyed, ranOf}
 use Rattle.replyback.proofs.Cases.{by-cond}
 
 -- ---- no type is missing: a Target stands
@@ -78,10 +79,9 @@ module _ (channels : List ℕ) (card : Card) (p : ℕ) where
       by-cond Small (isActive (card .pool) p k) _ _ (λ _. omega arith)
       (λ _. by-cond Small (eqb (admitNumber channels card (card .«add_cac») p k) 0) _ _ (λ _. omega arith) (λ _. omega arith))
 
-  delete-code : (x : Found) → deleteRow card p x .code < 4096
-  unfolding deleteRow
-  delete-code Nothing = omega arith
-  delete-code (At k) = by-cond Small (isActive (card .pool) p k) _ _ (λ _. omega arith) (λ _. omega arith)
+  delete-code : (f : Flow) → deleteFlow channels card p f .code < 4096
+  unfolding deleteFlow
+  delete-code f = by-cond Small (hasFlow channels (card .pool) p f) _ _ (λ _. omega arith) (λ _. omega arith)
 
   Fits : Order → Type 0
   Fits o = obeyed channels card p o .code < 4096
@@ -97,7 +97,7 @@ module _ (channels : List ℕ) (card : Card) (p : ℕ) where
       (λ _. by-cond Fits (goodFlow (flowNamed c)) _ _
       (λ _. by-cond Fits (eqb code 1) _ _
       (λ _. add-code accounting (channelOf channels (card .«channel_count») (flowNamed c)))
-      (λ _. delete-code (channelOf channels (card .«channel_count») (flowNamed c))))
+      (λ _. delete-code (flowNamed c)))
       (λ _. ill-code 0x65 (omega arith)))
       (λ _. ill-code 0x55 (omega arith))
 

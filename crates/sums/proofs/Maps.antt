@@ -64,15 +64,15 @@ module _ {ℓ} {A : Type ℓ} where
         go true e = let k = ltb-true j i e in e ∙ sym (lt-ltb j (i + 1) (omega arith))
         go false e = let k = ltb-false j i e in e ∙ sym (le-ltb j (i + 1) (omega (arith, m)))
 
-    pub sweep-read : (d : A) → i < n → getD (sweep n f g i) i d ≡ f i
-    sweep-read d h = mapTo-getD n (λ j. cond (ltb j i) (g j) (f j)) i d h ∙ simp (le-ltb i i (omega arith))
+    pub sweep-read : (d : A) (j : ℕ) → i ≤ j → j < n → getD (sweep n f g i) j d ≡ f j
+    sweep-read d j l h = mapTo-getD n (λ k. cond (ltb k i) (g k) (f k)) j d h ∙ simp (le-ltb j i l)
 
     pub sweep-set : (v : A) → i < n → v ≡ g i → set (sweep n f g i) i v ≡ sweep n f g (i + 1)
     sweep-set v h e =
         mapTo-set n (λ j. cond (ltb j i) (g j) (f j)) (λ j. cond (ltb j (i + 1)) (g j) (f j)) i v (λ j l m. passed h j m) (e ∙ simp (lt-ltb i (i + 1) (omega arith)))
 
     pub sweep-keep : (d : A) → i < n → f i ≡ g i → sweep n f g i ≡ sweep n f g (i + 1)
-    sweep-keep d h e = sym (set-getD (sweep n f g i) i d) ∙ sweep-set (getD (sweep n f g i) i d) h (sweep-read d h ∙ e)
+    sweep-keep d h e = sym (set-getD (sweep n f g i) i d) ∙ sweep-set (getD (sweep n f g i) i d) h (sweep-read d i (omega arith) h ∙ e)
 
     pub sweep-end : n ≤ i → sweep n f g i ≡ mapTo n g
     sweep-end h = mapTo-ext n (λ j. cond (ltb j i) (g j) (f j)) g (λ j l. simp (lt-ltb j i (omega arith)))
