@@ -111,6 +111,9 @@ ancp_started ancp_card_started(const uint8_t *ids, size_t ports, const uint32_t 
 ancp_answer ancp_card_call(ancp_card *card, const uint8_t *ids, const uint32_t *channels, const uint32_t *entries, ancp_call call, const uint8_t *octets,
                            size_t n, uint8_t *reply, size_t room);
 
+/* a leave that copies nothing of the card; it comes to the same as ANCP_CALL_LEAVE */
+uint8_t ancp_card_leave_in(ancp_card *card, const uint32_t *channels, size_t p, ancp_flow f);
+
 /* the readers take the card by value */
 bool ancp_card_up_in(ancp_card card, size_t p);
 uint32_t ancp_card_delegation_in(ancp_card card, size_t p);
@@ -177,7 +180,7 @@ static inline uint8_t ancp_card_join(ancp_card *card, const ancp_tables *t, size
 
 /* The flow ends, whoever began it. */
 static inline uint8_t ancp_card_leave(ancp_card *card, const ancp_tables *t, size_t p, const ancp_flow *f) {
-    return ancp_silent(card, t, ancp_call_with(ANCP_CALL_LEAVE, p, f));
+    return ancp_card_leave_in(card, t->channels, p, *f);
 }
 
 /* Writes a request for bandwidth (146) to the server, which is then open. */

@@ -244,8 +244,7 @@ pub fn leave_in(
 
 // Where port p's record lies in the table; a number that is no port's is not looked at.
 pub fn slot(p: usize) -> usize
-    ensures inside { λ r. ⌜ r < 64 ⌝ }
-    ensures same { λ r. ⌜ (p < 64 → r ≡ p) ⌝ }
+    ensures { λ r. ⌜ (r < 64) × (p < 64 → r ≡ p) ⌝ }
 {
     if 64 <= p { 63 } else { p }
 }

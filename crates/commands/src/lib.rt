@@ -12,8 +12,7 @@ ghost use lib.ListN.{length};
 ghost use Rattle.fields.specs.Fields.{commandIn};
 ghost use Rattle.channels.specs.Channels.{channelOf};
 ghost use Rattle.pool.specs.Pool.{poolOf, Whole};
-ghost use Rattle.commands.specs.Orders.{flowsAsked, flowCount, flowContent, shapeOk, flowOrder, Order};
-ghost use Rattle.commands.specs.Orders.Order.{deleteAll};
+ghost use Rattle.commands.specs.Orders.{flowsAsked, flowContent, shapeOk, flowOrder};
 ghost use Rattle.commands.specs.Commands.{addRow, deleteFlow, obeyed, ranOf, Runs};
 
 // The card behind a command, and its result code: 0 for success. The definitions speak of it; the functions lend the maps.

@@ -10,6 +10,7 @@ ghost use lib.ListN.{length};
 ghost use Rattle.pool.specs.Pool.{extrasOf, listed};
 ghost use Rattle.card.specs.Outcome.{Ends};
 ghost use Rattle.card.specs.Start.{startOf};
+ghost use Rattle.card.specs.Calls.{leaveOf};
 ghost use Rattle.card.specs.Figures.{upOf, delegationOf, committedAt};
 ghost use Rattle.listing.specs.Listing.{flowsAt, activeAt};
 ghost use Rattle.demand3.specs.Calls.{outcomeOf};
@@ -116,6 +117,30 @@ pub extern "C" fn ancp_card_call(
         number: done.number,
         length: done.length,
     }
+}
+
+// A leave that copies nothing of the card but the port's record: the owner map is lent where it lies.
+#[no_mangle]
+pub extern "C" fn ancp_card_leave_in(
+    card: &mut Card,
+    channels: &[u32; 2816],
+    p: usize,
+    f: Flow,
+) -> u8
+    ensures number { λ r. ⌜ r ≡ leaveOf (now (channels .entry)) (now (card .entry)) p f .number ⌝ }
+    ensures card { λ _. ⌜ now (card .exit) ≡ leaveOf (now (channels .entry)) (now (card .entry)) p f .card ⌝ }
+{
+    let at = card::slot(p);
+    let x = card.ports[at];
+    card::leave_in(
+        &mut card.pool.owner,
+        &card.pool.channel,
+        channels,
+        card.port_count,
+        x,
+        p,
+        f,
+    )
 }
 
 // ---- what a host may read
