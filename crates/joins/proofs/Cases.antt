@@ -1,9 +1,10 @@
 -- The cases of join and ask, each from the tests that lead to it. Assumes nothing.
 use mathlib.Core.Path.{_≡_, refl, sym, ap, _∙_}
 use mathlib.Core.Bool.{true, false, cond}
-use mathlib.Core.List.{List, []}
+use mathlib.Core.List.{List}
 use Prim.Native.Nat.{ℕ}
 use lib.Dec.{eqb, ltb}
+use borrow.Author.Tests.{eq-eqb, ne-eqb}
 use Rattle.octets.proofs.Tests.{taken, left}
 use Rattle.flows.specs.declared.Flow.{Flow}
 use Rattle.flows.specs.Flows.{goodFlow}
@@ -16,7 +17,6 @@ use Rattle.ports.specs.Ports.{mayAsk}
 use Rattle.card.specs.declared.Card.{Card}
 use Rattle.card.specs.Cards.{hasPort, portAt, withPool}
 use Rattle.card.specs.Outcome.{Outcome, keeps, becomes}
-use Rattle.card.proofs.Ends.{silent-by}
 use Rattle.joins.specs.Joins.{admitNumber, whiteOf, byList, joinRow, joinOf}
 use Rattle.joins.specs.Asks.{askedOf, askOf}
 
@@ -106,11 +106,21 @@ module _ (ids : List ℕ) (card : Card) (p required preferred room : ℕ) where
         ask-on h = taken (mayAsk (portAt card p) required preferred) (askedOf ids card p required preferred) (keeps card 12) h ∙ check-on card p room may full port is-up ∙ ask-is
 
 -- ---- a flow of channel k
-pub white-silent : (channels : List ℕ) (card : Card) (p k : ℕ) → whiteOf channels card p k .reply ≡ []
-unfolding whiteOf
-white-silent channels card p k =
-    silent-by (eqb (admitNumber channels card (card .«white_cac») p k) 0) (becomes (withPool card (began (card .pool) p k (card .«white_cac») 0)))
-    (keeps card (admitNumber channels card (card .«white_cac») p k)) refl refl
+-- n is what admission answers
+module _ (channels : List ℕ) (card : Card) (p k : ℕ) {n : ℕ} (e : n ≡ admitNumber channels card (card .«white_cac») p k) where
+  abbrev number : ℕ
+  number = admitNumber channels card (card .«white_cac») p k
+
+  abbrev begins : Outcome
+  begins = becomes (withPool card (began (card .pool) p k (card .«white_cac») 0))
+
+  pub white-refused : (n ≡ 0 → ⊥) → keeps card n ≡ whiteOf channels card p k
+  unfolding whiteOf
+  white-refused h = ap (keeps card) e ∙ left (eqb number 0) begins (keeps card number) (ne-eqb number 0 (λ q. h (e ∙ q)))
+
+  pub white-begins : n ≡ 0 → begins ≡ whiteOf channels card p k
+  unfolding whiteOf
+  white-begins h = taken (eqb number 0) begins (keeps card number) (eq-eqb number 0 (sym e ∙ h))
 
 module _ (ids channels entries : List ℕ) (card : Card) (p : ℕ) (f : Flow) (k : ℕ) where
   abbrev decides : Decision → Outcome

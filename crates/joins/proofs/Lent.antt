@@ -1,16 +1,11 @@
 -- A card's figures, read off maps that are lent. Assumes nothing.
-use mathlib.Core.Path.{_≡_, refl, ap, _∙_}
+use mathlib.Core.Path.{_≡_, ap, _∙_}
 use mathlib.Core.Bool.{Bool}
 use mathlib.Core.List.{List}
 use Prim.Native.Nat.{ℕ}
 use Rattle.pool.specs.Pool.{committedIn, committedOf, roomIn, hasRoom}
 use Rattle.card.specs.declared.Card.{Card}
-use Rattle.card.specs.Cards.{portAt}
 use Rattle.joins.specs.Joins.{AsLent}
-
--- a card has its own maps
-pub as-lent : (card : Card) (p : ℕ) → AsLent card (card .pool .owner) (card .pool .channel) (card .pool .charged) p (portAt card p .delegation)
-as-lent card p = record { owner = refl; channel = refl; charged = refl; delegation = refl }
 
 module _ {card : Card} {owner channel : List ℕ} {charged : List Bool} {p amount : ℕ} (l : AsLent card owner channel charged p amount) where
   pub room-lent : hasRoom (card .pool) p ≡ roomIn owner p

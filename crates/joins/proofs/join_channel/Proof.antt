@@ -1,36 +1,61 @@
-use mathlib.Core.Path.{_≡_, sym, _∙_}
-use mathlib.Core.Bool.{true, false}
-use mathlib.Core.List.{List}
-use Prim.Native.Nat.{ℕ}
-use Rattle.pool.specs.Pool.{isActive}
+use mathlib.Core.Path.{_≡_, refl, sym, _∙_}
+use mathlib.Core.Bool.{false}
+use Rattle.pool.specs.declared.Pool.{Pool}
+use Rattle.pool.specs.Pool.{activeIn, poolOf}
+use Rattle.card.specs.Cards.{withPool}
 use Rattle.joins.specs.Joins.{byList}
-use Rattle.card.proofs.Ends.{ends-kept, ends-silent, ends-as}
-use Rattle.joins.proofs.Cases.{white-silent, row-1, row-list}
+use Rattle.joins.proofs.Cases.{row-1, row-list}
+use Rattle.joins.proofs.Parts.{joins-silent, joins-as, decided-is}
 use borrow.Author.Needs.{needs}
 use Rattle.joins.proofs.join_channel.Statement.{statement}
 use Rattle.joins.proofs.join_channel.Tie as tie
 
-idle : (c : tie.Else1) → isActive (c .before .before .before .before .before .before .before .args .card .pool) (c .before .before .before .before .before .before .before .args .p) (c .before .before .before .before .before .before .before .args .k) ≡ false
+-- the maps at entry
+abbrev maps : (c : tie.Start) → Pool
+maps c = poolOf (c .args .owner .now) (c .args .channel .now) (c .args .charged .now) (c .args .accounting .now)
+
+idle : (c : tie.Else1) → activeIn (c .before .before .before .before .before .args .owner .now) (c .before .before .before .before .before .args .channel .now) (c .before .before .before .before .before .args .p) (c .before .before .before .before .before .args .k) ≡ false
 idle c = sym (c .before .is-active .ensures) ∙ c .if1 .left
 
 returns : tie.Need-returns
-returns c = let a = c .before .before .before .before .before .before .before .before .args in ends-kept (a .card) 1 _ (c .kept .ensures) (row-1 (a .ids .now) (a .channels .now) (a .entries .now) (a .card) (a .p) (a .f) (a .k) (sym (c .before .before .is-active .ensures) ∙ c .before .if1 .taken))
+returns c =
+    let a = c .before .before .before .before .before .before .args in
+    joins-silent 1 (c .silent .ensures) refl
+    (λ card h. row-1 (a .ids .now) (a .channels .now) (a .entries .now) (withPool card (maps (c .before .before .before .before .before .before))) (a .p) (a .f) (a .k) (sym (c .before .before .is-active .ensures) ∙ c .before .if1 .taken))
+
+join-white-requires : tie.Need-join-white-requires
+join-white-requires c κs = (c .before .before .before .before .before .before .before .before .before .before .before .before .pre .0, c .before .before .before .before .before .before .before .before .before .before .before .before .pre .1 .1)
+
+join-grey-requires : tie.Need-join-grey-requires
+join-grey-requires c κs = c .before .before .before .before .before .before .before .before .before .pre .1
 
 returns-2 : tie.Need-returns-2
 unfolding byList
-returns-2 c = let a = c .before .before .before .before .before .before .before .before .before .before .before .args in ends-silent _ (c .join-white .ensures) (white-silent (a .channels .now) (a .card) (a .p) (a .k)) (row-list (a .ids .now) (a .channels .now) (a .entries .now) (a .card) (a .p) (a .f) (a .k) (idle (c .before .before .before .before)) (c .before .before .before .list-decision .ensures) (c .before .enum-told .given .1))
+returns-2 c =
+    let a = c .before .before .before .before .before .before .before .before .before .before .before .before .before .args in
+    joins-as (c .join-white .ensures (a .reply .now))
+    (λ card h. row-list (a .ids .now) (a .channels .now) (a .entries .now) (withPool card (maps (c .before .before .before .before .before .before .before .before .before .before .before .before .before))) (a .p) (a .f) (a .k) (idle (c .before .before .before .before .before .before .before .before)) (decided-is h (a .entries .now) (a .f) (c .before .before .before .before .before .before .before .list-decision .ensures)) (c .before .before .before .before .before .enum-told .given .1))
 
 returns-3 : tie.Need-returns-3
 unfolding byList
-returns-3 c = let a = c .before .before .before .before .before .before .before .before .before .before .before .before .before .before .args in ends-as (c .before .before .join-grey .ensures) (row-list (a .ids .now) (a .channels .now) (a .entries .now) (a .card) (a .p) (a .f) (a .k) (idle (c .before .before .before .before .before .before .before)) (c .before .before .before .before .before .before .list-decision .ensures) (c .before .before .before .before .enum-told2 .given .1))
+returns-3 c =
+    let a = c .before .before .before .before .before .before .before .before .before .before .before .before .args in
+    joins-as (c .before .before .join-grey .ensures (maps (c .before .before .before .before .before .before .before .before .before .before .before .before)))
+    (λ card h. row-list (a .ids .now) (a .channels .now) (a .entries .now) (withPool card (maps (c .before .before .before .before .before .before .before .before .before .before .before .before))) (a .p) (a .f) (a .k) (idle (c .before .before .before .before .before .before .before)) (decided-is h (a .entries .now) (a .f) (c .before .before .before .before .before .before .list-decision .ensures)) (c .before .before .before .before .enum-told2 .given .1))
 
 returns-4 : tie.Need-returns-4
 unfolding byList
-returns-4 c = let a = c .before .before .before .before .before .before .before .before .before .before .before .args in ends-kept (a .card) 3 _ (c .kept2 .ensures) (row-list (a .ids .now) (a .channels .now) (a .entries .now) (a .card) (a .p) (a .f) (a .k) (idle (c .before .before .before .before)) (c .before .before .before .list-decision .ensures) (c .before .enum-told3 .given .1))
+returns-4 c =
+    let a = c .before .before .before .before .before .before .before .before .before .args in
+    joins-silent 3 (c .silent2 .ensures) refl
+    (λ card h. row-list (a .ids .now) (a .channels .now) (a .entries .now) (withPool card (maps (c .before .before .before .before .before .before .before .before .before))) (a .p) (a .f) (a .k) (idle (c .before .before .before .before)) (decided-is h (a .entries .now) (a .f) (c .before .before .before .list-decision .ensures)) (c .before .enum-told3 .given .1))
 
 returns-5 : tie.Need-returns-5
 unfolding byList
-returns-5 c = let a = c .before .before .before .before .before .before .before .before .before .before .before .args in ends-kept (a .card) 3 _ (c .kept3 .ensures) (row-list (a .ids .now) (a .channels .now) (a .entries .now) (a .card) (a .p) (a .f) (a .k) (idle (c .before .before .before .before)) (c .before .before .before .list-decision .ensures) (c .before .enum-told4 .given .1))
+returns-5 c =
+    let a = c .before .before .before .before .before .before .before .before .before .args in
+    joins-silent 3 (c .silent3 .ensures) refl
+    (λ card h. row-list (a .ids .now) (a .channels .now) (a .entries .now) (withPool card (maps (c .before .before .before .before .before .before .before .before .before))) (a .p) (a .f) (a .k) (idle (c .before .before .before .before)) (decided-is h (a .entries .now) (a .f) (c .before .before .before .list-decision .ensures)) (c .before .enum-told4 .given .1))
 
 pub join-channel-spec : {M : Type 1} → statement M
 join-channel-spec =
@@ -41,9 +66,9 @@ join-channel-spec =
     returns
     (λ c κs. search needs)
     (λ c. search needs)
-    (λ c κs. search needs)
+    join-white-requires
     (λ c. search needs)
-    (λ c κs. search needs)
+    join-grey-requires
     (λ c. search needs)
     (λ c κs. search needs)
     (λ c. search needs)

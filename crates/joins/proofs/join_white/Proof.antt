@@ -1,53 +1,51 @@
-use mathlib.Core.Path.{_≡_, sym, ap, _∙_}
-use Prim.Native.Nat.{ℕ}
-use lib.Dec.{eqb}
-use borrow.Author.Tests.{eq-eqb, ne-eqb}
-use Rattle.octets.proofs.Tests.{taken, left}
+use mathlib.Core.Path.{_≡_, refl, sym, ap, _∙_}
+use mathlib.Core.Bool.{Bool}
 use Rattle.pool.specs.declared.Pool.{Pool}
-use Rattle.pool.specs.Pool.{Whole, began}
+use Rattle.pool.specs.Pool.{poolOf, began}
+use Rattle.card.specs.declared.Card.{Card}
 use Rattle.card.specs.Cards.{withPool}
-use Rattle.card.specs.Outcome.{Outcome, keeps, becomes, doneOf}
-use Rattle.joins.specs.Joins.{admitNumber, whiteOf}
-use Rattle.joins.proofs.Lent.{as-lent}
+use Rattle.card.specs.Outcome.{becomes}
+use Rattle.joins.specs.Joins.{admitNumber}
+use Rattle.joins.specs.Parts.{HasTerms}
+use Rattle.joins.proofs.Cases.{white-refused, white-begins}
+use Rattle.joins.proofs.Parts.{joins-silent, terms-lent}
 use borrow.Author.Needs.{needs}
 use Rattle.joins.proofs.join_white.Statement.{statement}
 use Rattle.joins.proofs.join_white.Tie as tie
 
-abbrev begins : (c : tie.Start) → Outcome
-begins c = becomes (withPool (c .args .card) (began (c .args .card .pool) (c .args .p) (c .args .k) (c .args .card .«white_cac») 0))
+-- the maps at entry
+abbrev maps : (c : tie.Start) → Pool
+maps c = poolOf (c .args .owner .now) (c .args .channel .now) (c .args .charged .now) (c .args .accounting .now)
 
-abbrev number : (c : tie.Start) → ℕ
-number c = admitNumber (c .args .channels .now) (c .args .card) (c .args .card .«white_cac») (c .args .p) (c .args .k)
-
-whole : (c : tie.Start) → Whole (c .args .card .pool)
-whole c = record { owner = search needs; channel = search needs; charged = search needs; accounting = search needs }
-
-admitted : (c : tie.After-admit-number) → c .admit-number .result ≡ number (c .before .before .before .before .before .before .before)
-admitted c = let a = c .before .before .before .before .before .before .before .args in c .admit-number .ensures (a .card) (as-lent (a .card) (a .p))
+admitted : (c : tie.After-admit-number) (card : Card) → HasTerms card (c .before .before .before .before .before .args .p) (c .before .before .before .before .before .args .terms)
+    → c .admit-number .result ≡ admitNumber (c .before .before .before .before .before .args .channels .now) (withPool card (maps (c .before .before .before .before .before))) (card .«white_cac») (c .before .before .before .before .before .args .p) (c .before .before .before .before .before .args .k)
+admitted c card h =
+    let a = c .before .before .before .before .before .args in
+    let pool : Pool = maps (c .before .before .before .before .before) in
+    c .admit-number .ensures (withPool card pool) (terms-lent h (c .before .before .before .before .before .pre .1) pool) ∙ ap (λ (b : Bool). admitNumber (a .channels .now) (withPool card pool) b (a .p) (a .k)) (sym (h .cac))
 
 returns : tie.Need-returns
-unfolding whiteOf
-returns c = let s = c .before .before .before .before .before .before .before .before .before in
-    let e = admitted (c .before .before) in
-    c .kept .ensures ∙ ap (λ (n : ℕ). doneOf (keeps (s .args .card) n)) e
-    ∙ ap doneOf (left (eqb (number s) 0) (begins s) (keeps (s .args .card) (number s)) (ne-eqb (number s) 0 (λ z. c .before .if1 .taken (e ∙ z))))
+returns c text =
+    let a = c .before .before .before .before .before .before .before .args in
+    joins-silent (c .before .before .admit-number .result) (c .silent .ensures) refl
+    (λ card h. white-refused (a .channels .now) (withPool card (maps (c .before .before .before .before .before .before .before))) (a .p) (a .k) (admitted (c .before .before) card h) (c .before .if1 .taken))
 
 begin-in-requires : tie.Need-begin-in-requires
-begin-in-requires c κs = whole (c .before .before .before .before .before .before .before .before .before .before .before .before .before .before .before .before)
+begin-in-requires c κs = c .before .before .before .before .before .before .before .before .before .before .pre .0
 
 returns-2 : tie.Need-returns-2
-unfolding whiteOf
-returns-2 c = let s = c .before .before .before .before .before .before .before .before .before .before .before .before .before .before .before .before .before .before in
-    let e = admitted (c .before .before .before .before .before .before .before .before .before .before .before) in
-    c .kept2 .ensures ∙ ap (λ (y : Pool). doneOf (becomes (withPool (s .args .card) y))) (c .before .begin-in .ensures)
-    ∙ ap doneOf (taken (eqb (number s) 0) (begins s) (keeps (s .args .card) (number s)) (eq-eqb (number s) 0 (sym e ∙ c .before .before .before .before .before .before .before .before .before .before .if1 .left)))
+returns-2 c text =
+    let a = c .before .before .before .before .before .before .before .before .before .before .before .before .args in
+    let pool : Pool = maps (c .before .before .before .before .before .before .before .before .before .before .before .before) in
+    joins-silent 0 (c .silent2 .ensures) (c .before .begin-in .ensures)
+    (λ card h.
+    ap (λ (b : Bool). becomes (withPool card (began pool (a .p) (a .k) b 0))) (sym (h .cac))
+    ∙ white-begins (a .channels .now) (withPool card pool) (a .p) (a .k) (admitted (c .before .before .before .before .before .before .before) card h) (c .before .before .before .before .before .before .if1 .left))
 
 pub join-white-spec : {M : Type 1} → statement M
 join-white-spec =
     tie.close
     (tie.spec
-    (λ c. search needs)
-    (λ c. search needs)
     (λ c κs. search needs)
     (λ c κs. search needs)
     returns
