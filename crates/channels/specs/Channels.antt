@@ -21,6 +21,10 @@ channelAt t i = record {
 unfoldable pub rateAt : List ℕ → ℕ → ℕ
 rateAt t i = getD t (i * 11 + 2) 0
 
+-- word k of the group of row i
+abbrev pub groupWord : List ℕ → ℕ → ℕ → ℕ
+groupWord t k i = getD t (i * 11 + 3 + k) 0
+
 -- row i is the flow's
 abbrev pub isRow : List ℕ → Flow → ℕ → Bool
 isRow t f i = sameFlow (channelAt t i) f

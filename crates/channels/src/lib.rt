@@ -1,6 +1,9 @@
 // The channel table: 256 rows of 11 words, lent by the host. A row is family, sourced (0 or 1), rate, group (4), source (4).
 ghost use mathlib.Core.Path.{_≡_};
-ghost use Rattle.channels.specs.Channels.{channelAt, rateAt, channelOf};
+ghost use Prim.Native.Nat.{_+_, _<_, _≤_};
+ghost use lib.Dec.{eqb};
+ghost use Rattle.rows.specs.Rows.{noneOf, NextWith};
+ghost use Rattle.channels.specs.Channels.{channelAt, rateAt, groupWord, channelOf};
 use flows::Flow;
 use flows::same_flow;
 use flows::width;
@@ -39,7 +42,7 @@ pub fn rate_at(channels: &[u32; 2816], i: u8) -> u32
     channels[(i as usize) * 11 + 2]
 }
 
-// The row of a flow. Channels differ most often in the last word of the group: it is compared first, and most rows go no further.
+// The row of a flow. Channels differ most often in the last word of the group: only rows that have it are compared whole.
 pub fn channel_of(channels: &[u32; 2816], n: usize, f: Flow) -> Found
     ensures { λ r. ⌜ r ≡ channelOf (now (channels .entry)) n f ⌝ }
 {
@@ -47,15 +50,50 @@ pub fn channel_of(channels: &[u32; 2816], n: usize, f: Flow) -> Found
     let g = f.group;
     let last = g[k];
     let rows = at_most(n, 256);
-    let mut i: usize = 0;
+    let mut from: usize = 0;
+    loop {
+        let i = next_row(channels, rows, k, last, from);
+        if rows <= i {
+            return Found::Nothing;
+        }
+        let row = channel_at(channels, i as u8);
+        if same_flow(row, f) {
+            return Found::At(i as u8);
+        }
+        from = i + 1;
+    }
+}
+
+// The first row from `from` on with this word k of the group, or `rows`: others are passed over 8 at a time, then singly.
+fn next_row(channels: &[u32; 2816], rows: usize, k: usize, word: u32, from: usize) -> usize
+    requires { ⌜ (from ≤ rows) × (rows ≤ 256) × (k < 4) ⌝ }
+    ensures { λ r. ⌜ NextWith (groupWord (now (channels .entry)) k) word rows from r ⌝ }
+{
+    let mut i = from;
+    while i + 8 <= rows && none_of(channels, i, k, word, 8) {
+        i += 8;
+    }
     while i < rows {
-        if channels[i * 11 + 3 + k] == last {
-            let row = channel_at(channels, i as u8);
-            if same_flow(row, f) {
-                return Found::At(i as u8);
-            }
+        if channels[i * 11 + 3 + k] == word {
+            return i;
         }
         i += 1;
     }
-    Found::Nothing
+    i
+}
+
+// None of the n rows from `at` on has this word. There is no early end, so that the compiler writes out all n compares.
+fn none_of(channels: &[u32; 2816], at: usize, k: usize, word: u32, n: usize) -> bool
+    requires { ⌜ (at + n ≤ 256) × (k < 4) ⌝ }
+    ensures { λ r. ⌜ r ≡ noneOf n (λ i. eqb (groupWord (now (channels .entry)) k (at + i)) word) ⌝ }
+{
+    let mut none = true;
+    let mut i: usize = 0;
+    while i < n {
+        if channels[(at + i) * 11 + 3 + k] == word {
+            none = false;
+        }
+        i += 1;
+    }
+    none
 }

@@ -13,11 +13,11 @@ use lib.ListN.{length, getD, set}
 use lib.Dec.{ltb}
 use borrow.Author.Tests.{eqb-true, lt-ltb, ltb-false}
 use Rattle.octets.proofs.Tests.{both, false-by}
+use Rattle.rows.proofs.Nexts.{kept-over, next-stands, next-same}
 use Rattle.sums.specs.Sums.{mapTo}
 use Rattle.pool.specs.Pool.{isOf, Next, isOne, holdsWhere, activeWhere, poolOf, withOwner, withAccounting, ended, endedAll, accounted, endedIn, endedAllIn, accountedIn}
 use Rattle.pool.specs.declared.Pool.{Pool}
-use Rattle.pool.proofs.Nexts.{kept-over, Stands, next-stands, next-same}
-use Rattle.pool.proofs.Turns.{sumBefore, sum-start, sum-mine, sum-none, sum-at, sum-skip, sum-end}
+use Rattle.pool.proofs.Turns.{Stands, sumBefore, sum-start, sum-mine, sum-none, sum-at, sum-skip, sum-end}
 use Rattle.pool.proofs.Marks.{mark, marked, mark-start, mark-read, mark-on, mark-off, mark-skip, mark-end, is-one, not-selected}
 
 module _ (l : List ℕ) (v : ℕ) (owner channel : List ℕ) (p : ℕ) (sel : ℕ → Bool) where

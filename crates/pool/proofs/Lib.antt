@@ -1,4 +1,3 @@
-pub mod Nexts
 pub mod Turns
 pub mod Rooms
 pub mod Whole

@@ -12,12 +12,12 @@ use lib.Seq.{take-all}
 use borrow.Author.Tests.{eq-eqb, ne-eqb}
 use Rattle.octets.specs.Writing.{over, Wrote}
 use Rattle.octets.proofs.Writing.{over-none}
+use Rattle.rows.proofs.Nexts.{kept-over}
 use Rattle.sums.specs.Sums.{pickTo, sumBy}
 use Rattle.sums.proofs.Picks.{pickTo-zero, pickTo-take, pickTo-pass, pickTo-start, sumBy-pick, length-pick}
 use Rattle.pool.specs.Pool.{isOf, Next, sumOver, poolSum, countOf, rowsIn, rowsOf, listed}
 use Rattle.pool.specs.declared.Pool.{Pool}
 use Rattle.pool.specs.declared.Rows.{Rows}
-use Rattle.pool.proofs.Nexts.{kept-over}
 
 -- the channels of the port's records before record i
 abbrev pub rowsBefore : List ℕ → List ℕ → ℕ → ℕ → List ℕ

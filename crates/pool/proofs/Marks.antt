@@ -7,10 +7,10 @@ use native.Mathlib.Omega.{arith}
 use lib.ListN.{length, getD, set}
 use lib.Dec.{eqb}
 use borrow.Author.Tests.{eq-eqb, ne-eqb}
+use Rattle.rows.proofs.Nexts.{kept-over}
 use Rattle.sums.specs.Sums.{mapTo}
 use Rattle.sums.proofs.Maps.{sweep, sweep-start, sweep-read, sweep-set, sweep-keep, sweep-end}
 use Rattle.pool.specs.Pool.{isOf, Next, isOne}
-use Rattle.pool.proofs.Nexts.{kept-over}
 use Rattle.pool.specs.declared.Pool.{Pool}
 
 module _ (l : List ℕ) (v : ℕ) (test : ℕ → Bool) where

@@ -110,7 +110,7 @@ module _ (owner : List ℕ) where
           absurd (x .others (freeIn owner) (omega arith) l (free-at (omega (arith, x .most))))
 
       high : (b : Bool) → ltb r 512 ≡ b → freeIn owner ≤ r
-      high true e = let l = ltb-true r 512 e in free-first r l (x .mine l)
+      high true e = let l = ltb-true r 512 e in free-first r l (x .has l)
       high false e = omega (arith, ltb-false r 512 e, free-most)
 
 -- ---- a record of another port weighs nothing

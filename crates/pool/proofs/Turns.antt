@@ -10,11 +10,15 @@ use mathlib.Core.List.{List}
 use native.Mathlib.Omega.{arith}
 use lib.ListN.{getD, set, replicate}
 use borrow.Author.Tests.{eq-eqb, ne-eqb}
+use Rattle.rows.proofs.Nexts.{kept-over}
 use Rattle.sums.specs.Sums.{sumTo, mapTo}
 use Rattle.sums.proofs.Sums.{sumTo-zero, sumTo-suc, sumTo-at, sumTo-mono, sumTo-const, test-most}
 use Rattle.sums.proofs.Maps.{mapTo-getD, mapTo-ext, mapTo-const, mapTo-set}
 use Rattle.pool.specs.Pool.{isOf, Next, sumOver, countIn}
-use Rattle.pool.proofs.Nexts.{kept-over}
+
+-- where a walk over port p's records stands: at one of them, or at the end
+abbrev pub Stands : List ℕ → ℕ → ℕ → Type 0
+Stands owner p i = (i ≤ 512) × (i < 512 → getD owner i 0 ≡ p)
 
 -- the sum over port p's records before record i
 abbrev pub sumBefore : List ℕ → ℕ → (ℕ → ℕ) → ℕ → ℕ

@@ -1,6 +1,6 @@
 -- The 512 flow records (01, "Flows, lists, records"). Assumes nothing: these are definitions.
 -- A figure that a function reads off lent maps is defined on the maps (`countIn owner`), and of a pool it is that of its maps.
-use Prim.Native.Nat.{ℕ, _-_, _≤_, _<_}
+use Prim.Native.Nat.{ℕ, _-_}
 use mathlib.Core.Path.{_≡_}
 use mathlib.Core.Bool.{Bool, true, false, cond, _&&_, _||_}
 use mathlib.Core.List.{List, []}
@@ -8,7 +8,7 @@ use lib.ListN.{length, getD, set, take, replicate}
 use lib.Dec.{eqb, ltb}
 use Rattle.flows.specs.declared.Flow.{Flow}
 use Rattle.channels.specs.Channels.{rateAt, isRow}
-use Rattle.rows.specs.Rows.{firstOf}
+use Rattle.rows.specs.Rows.{firstOf, NextWith}
 use Rattle.rows.specs.declared.Found.{Found}
 use Rattle.rows.specs.declared.Found.the-variants.{At, Nothing}
 use Rattle.sums.specs.Sums.{sumTo, mapTo, pickTo}
@@ -23,11 +23,8 @@ abbrev pub isOf : List ℕ → ℕ → ℕ → Bool
 isOf owner p i = eqb (getD owner i 0) p
 
 -- record r is the first of port p's from record `from` on, or r is 512 where there is none
-pub record Next (owner : List ℕ) (p from r : ℕ) : Type 0 where
-  pub reached : from ≤ r
-  pub most : r ≤ 512
-  pub mine : r < 512 → getD owner r 0 ≡ p
-  pub others : (i : ℕ) → from ≤ i → i < r → getD owner i 0 ≡ p → ⊥
+abbrev pub Next : List ℕ → ℕ → ℕ → ℕ → Type 0
+Next owner p from r = NextWith (λ i. getD owner i 0) p 512 from r
 
 -- the sum over port p's records of what f gives for each; shut, so that 512 terms are never written out
 unfoldable pub sumOver : List ℕ → ℕ → (ℕ → ℕ) → ℕ

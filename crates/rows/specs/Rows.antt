@@ -1,5 +1,6 @@
 -- Tests on the rows of a table, by their numbers. Assumes nothing: these are definitions.
-use Prim.Native.Nat.{ℕ, zero, suc}
+use Prim.Native.Nat.{ℕ, zero, suc, _≤_, _<_}
+use mathlib.Core.Path.{_≡_}
 use mathlib.Core.Bool.{Bool, true, false, cond, not, _&&_}
 use mathlib.Core.List.{[], _∷_}
 use lib.Dec.{leb}
@@ -24,6 +25,13 @@ allOf (suc n) test = allOf n test && test n
 -- none of n rows passes the test
 unfoldable pub noneOf : ℕ → (ℕ → Bool) → Bool
 noneOf n test = allOf n (λ i. not (test i))
+
+-- row r is the first from row `from` on with the word x, or r is n where none of the n rows is
+pub record NextWith (word : ℕ → ℕ) (x n from r : ℕ) : Type 0 where
+  pub reached : from ≤ r
+  pub most : r ≤ n
+  pub has : r < n → word r ≡ x
+  pub others : (i : ℕ) → from ≤ i → i < r → word i ≡ x → ⊥
 
 -- a table of n rows has at most so many, and each passes the test
 unfoldable pub rowsOk : ℕ → ℕ → (ℕ → Bool) → Bool

@@ -6,8 +6,8 @@ use mathlib.Core.List.{List}
 use native.Mathlib.Omega.{arith}
 use lib.ListN.{getD}
 use Rattle.channels.specs.Channels.{rateAt}
-use Rattle.pool.proofs.Nexts.{Stands, next-stands}
-use Rattle.pool.proofs.Turns.{sumBefore, sum-start, sum-mine, sum-none, sum-skip, sum-end}
+use Rattle.rows.proofs.Nexts.{next-stands}
+use Rattle.pool.proofs.Turns.{Stands, sumBefore, sum-start, sum-mine, sum-none, sum-skip, sum-end}
 use borrow.Author.Needs.{needs}
 use Rattle.pool.proofs.committed_of.Statement.{statement}
 use Rattle.pool.proofs.committed_of.Tie as tie

@@ -1,8 +1,8 @@
 use Prim.Native.Nat.{ℕ, _+_, _-_}
 use mathlib.Core.Path.{_≡_, refl}
 use native.Mathlib.Omega.{arith}
-use Rattle.pool.proofs.Nexts.{Stands, next-stands}
-use Rattle.pool.proofs.Turns.{sumBefore, ones, count-most, sum-start, sum-mine, sum-skip, sum-end}
+use Rattle.rows.proofs.Nexts.{next-stands}
+use Rattle.pool.proofs.Turns.{Stands, sumBefore, ones, count-most, sum-start, sum-mine, sum-skip, sum-end}
 use borrow.Author.Needs.{needs}
 use Rattle.pool.proofs.count_of.Statement.{statement}
 use Rattle.pool.proofs.count_of.Tie as tie

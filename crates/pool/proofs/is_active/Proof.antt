@@ -7,8 +7,8 @@ use lib.ListN.{getD}
 use lib.Dec.{eqb}
 use mathlib.Core.List.{List}
 use Rattle.pool.specs.Pool.{holdsIn}
-use Rattle.pool.proofs.Nexts.{Stands, next-stands}
-use Rattle.pool.proofs.Turns.{sumBefore, sum-start, sum-none, sum-skip, sum-end, sum-at}
+use Rattle.rows.proofs.Nexts.{next-stands}
+use Rattle.pool.proofs.Turns.{Stands, sumBefore, sum-start, sum-none, sum-skip, sum-end, sum-at}
 use borrow.Author.Needs.{needs}
 use Rattle.pool.proofs.is_active.Statement.{statement}
 use Rattle.pool.proofs.is_active.Tie as tie

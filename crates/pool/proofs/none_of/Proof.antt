@@ -7,8 +7,8 @@ use native.Mathlib.Omega.{arith}
 use lib.ListN.{getD}
 use borrow.Author.Tests.{eq-eqb, ne-eqb}
 use Rattle.rows.specs.Rows.{noneOf}
+use Rattle.rows.proofs.Nexts.{none-start, none-hit, none-on}
 use Rattle.pool.specs.Pool.{isOf}
-use Rattle.pool.proofs.Nexts.{none-start, none-hit, none-on}
 use borrow.Author.Needs.{needs}
 use Rattle.pool.proofs.none_of.Statement.{statement}
 use Rattle.pool.proofs.none_of.Tie as tie

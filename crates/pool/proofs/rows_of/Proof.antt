@@ -1,7 +1,8 @@
 use Prim.Native.Nat.{ℕ, _+_, _≤_, _-_}
 use native.Mathlib.Omega.{arith}
 use Rattle.octets.specs.Writing.{Wrote}
-use Rattle.pool.proofs.Nexts.{Stands, next-stands}
+use Rattle.rows.proofs.Nexts.{next-stands}
+use Rattle.pool.proofs.Turns.{Stands}
 use Rattle.pool.proofs.Lists.{rowsBefore, zeros, rows-start, rows-mine, rows-skip, rows-all, rows-cut}
 use borrow.Author.Needs.{needs}
 use Rattle.pool.proofs.rows_of.Statement.{statement}
