@@ -107,7 +107,7 @@ pub fn entry_matches(e: Entry, f: Flow) -> bool
 
 // ---- the decision
 
-// The matching entry that stands highest decides. One that would not stand higher is not compared with the flow.
+// The matching entry that stands highest decides. Most entries do not match, so that is tried first.
 pub fn list_decision(entries: &[u32; 1536], n: usize, f: Flow) -> Decision
     ensures { λ r. ⌜ r ≡ listDecision (now (entries .entry)) n f ⌝ }
 {
@@ -116,9 +116,9 @@ pub fn list_decision(entries: &[u32; 1536], n: usize, f: Flow) -> Decision
     let mut i: usize = 0;
     while i < rows {
         let e = entry_at(entries, i);
-        let s = standing_of(e);
-        if best < s {
-            if entry_matches(e, f) {
+        if entry_matches(e, f) {
+            let s = standing_of(e);
+            if best < s {
                 best = s;
             }
         }

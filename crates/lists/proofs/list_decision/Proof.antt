@@ -3,7 +3,7 @@ use mathlib.Core.Path.{_≡_, refl, sym, ap, _∙_}
 use mathlib.Core.Logic.{⊎-elim}
 use native.Mathlib.Omega.{arith}
 use Rattle.lists.specs.Lists.{matching, listDecision}
-use Rattle.lists.specs.Standing.{highest, decisionOf}
+use Rattle.lists.specs.Standing.{standingOf, highest, decisionOf}
 use Rattle.lists.proofs.Standing.{decision-is, turn-raise, turn-other, turn-low}
 use borrow.Author.Needs.{needs}
 use Prim.Native.Nat.{_≤_, _-_}
@@ -23,17 +23,17 @@ loop-holds c =
 
 loop-again : tie.Need-loop-again Inv-loop μ-loop
 loop-again c =
-    let h = c .before .before .before .before in
+    let h = c .before .before .before .before .loop in
     let a = c .before .before .before .before .before .before .args in
     let e = c .before .before .entry-at in
-    let s = c .before .standing-of in
+    let m = c .before .entry-matches in
     let t = a .entries .now in (
       omega arith,
       ⊎-elim
-          (λ w. w .3 ∙ turn-raise t (a .f) (h .loop .i) (e .result) (s .result) (h .loop .best) (e .ensures) (s .ensures) (h .loop .inv .1) (w .0 .taken) (sym (w .1 .ensures) ∙ w .2 .taken))
+          (λ w. w .3 ∙ turn-raise t (a .f) (h .i) (e .result) (w .1 .result) (h .best) (e .ensures) (w .1 .ensures) (h .inv .1) (w .2 .taken) (sym (m .ensures) ∙ w .0 .taken))
           (⊎-elim
-          (λ w. w .3 ∙ turn-other t (a .f) (h .loop .i) (e .result) (s .result) (h .loop .best) (e .ensures) (s .ensures) (h .loop .inv .1) (sym (w .1 .ensures) ∙ w .2 .left))
-          (λ w. w .1 ∙ turn-low t (a .f) (h .loop .i) (e .result) (s .result) (h .loop .best) (e .ensures) (s .ensures) (h .loop .inv .1) (w .0 .left)))
+          (λ w. w .3 ∙ turn-low t (a .f) (h .i) (e .result) (w .1 .result) (h .best) (e .ensures) (w .1 .ensures) (h .inv .1) (w .2 .left))
+          (λ w. w .1 ∙ turn-other t (a .f) (h .i) (e .result) (standingOf (e .result)) (h .best) (e .ensures) refl (h .inv .1) (sym (m .ensures) ∙ w .0 .left)))
           (c .if1 .came),
     )
 
