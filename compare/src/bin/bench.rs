@@ -26,6 +26,8 @@ fn main() {
     let full = filled(&s, &empty);
     println!("{:<44} {:>12} {:>12} {:>8}", "call", "proved ns", "here ns", "ratio");
     measure("port up", &down_port(&empty), &Call::Up { port: PORT });
+    measure("port down", &empty, &Call::Down { port: PORT });
+    measure("set delegation", &empty, &Call::SetDelegation { port: PORT, amount: 4000 });
     for (pool, state) in [("empty", &empty), ("full", &full)] {
         host_calls(&s, pool, state);
         queries(&s, pool, state);
