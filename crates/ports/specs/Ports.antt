@@ -6,6 +6,8 @@ use mathlib.Core.List.{List, [], _∷_}
 use lib.Dec.{eqb, leb, ltb}
 use Rattle.octets.specs.Tests.{every}
 use Rattle.ports.specs.declared.Port.{Port}
+use Rattle.ports.specs.declared.Change.{Change}
+use Rattle.ports.specs.declared.Change.the-variants.{Kept, BroughtUp, TakenDown, Delegated, Closed, Asked}
 
 -- a port starts down, with delegation 0
 abbrev pub freshPort : Port
@@ -35,6 +37,15 @@ delegated x amount = record { up = x .up; asking = false; delegation = amount; r
 abbrev pub asked : Port → ℕ → ℕ → ℕ → Port
 asked x required preferred transaction =
     record { up = x .up; asking = true; delegation = x .delegation; required = required; preferred = preferred; transaction = transaction }
+
+-- the record behind a change
+unfoldable pub changedBy : Change → Port → Port
+changedBy Kept x = x
+changedBy BroughtUp x = broughtUp x
+changedBy TakenDown x = takenDown x
+changedBy (Delegated amount) x = delegated x amount
+changedBy Closed x = closed x
+changedBy (Asked required preferred transaction) x = asked x required preferred transaction
 
 -- delegation < required <= preferred and none is open
 unfoldable pub mayAsk : Port → ℕ → ℕ → Bool

@@ -2,7 +2,7 @@
 ghost use mathlib.Core.Path.{_≡_};
 ghost use Prim.Native.Nat.{_<_};
 ghost use lib.ListN.{set, getD};
-ghost use Rattle.ports.specs.Ports.{freshPort, closed, broughtUp, takenDown, delegated, asked, mayAsk, answers, within};
+ghost use Rattle.ports.specs.Ports.{freshPort, closed, broughtUp, takenDown, delegated, asked, changedBy, mayAsk, answers, within};
 ghost use Rattle.ports.specs.Transactions.{takenFrom};
 
 // asking: a request is open, with its figures and its transaction number.
@@ -14,6 +14,16 @@ pub struct Port {
     pub required: u32,
     pub preferred: u32,
     pub transaction: u32,
+}
+
+// What a call does to its port's record. A request is asked with required, preferred and its transaction number.
+pub enum Change {
+    Kept,
+    BroughtUp,
+    TakenDown,
+    Delegated(u32),
+    Closed,
+    Asked(u32, u32, u32),
 }
 
 impl Port {
@@ -28,16 +38,6 @@ impl Port {
             preferred: 0,
             transaction: 0,
         }
-    }
-
-    pub fn ask(mut self, required: u32, preferred: u32, transaction: u32) -> Port
-        ensures { λ r. ⌜ r ≡ asked self required preferred transaction ⌝ }
-    {
-        self.asking = true;
-        self.required = required;
-        self.preferred = preferred;
-        self.transaction = transaction;
-        self
     }
 
     pub fn may_ask(self, required: u32, preferred: u32) -> bool
@@ -110,41 +110,36 @@ pub fn close(x: &mut Port)
     x.transaction = 0;
 }
 
-// ---- the same of port p of the table, lent where it stands: no other port's record changes
-
-pub fn up_in(ports: [Port; 64], p: usize) -> [Port; 64]
-    requires { ⌜ p < 64 ⌝ }
-    ensures { λ r. ⌜ r ≡ set ports p (broughtUp (getD ports p freshPort)) ⌝ }
+pub fn ask(x: &mut Port, required: u32, preferred: u32, transaction: u32)
+    ensures { λ _. ⌜ now (x .exit) ≡ asked (now (x .entry)) required preferred transaction ⌝ }
 {
-    let mut table = ports;
-    up(&mut table[p]);
-    table
+    x.asking = true;
+    x.required = required;
+    x.preferred = preferred;
+    x.transaction = transaction;
 }
 
-pub fn down_in(ports: [Port; 64], p: usize) -> [Port; 64]
-    requires { ⌜ p < 64 ⌝ }
-    ensures { λ r. ⌜ r ≡ set ports p (takenDown (getD ports p freshPort)) ⌝ }
+// A port's record is changed where it is stored.
+pub fn update(x: &mut Port, c: Change)
+    ensures { λ _. ⌜ now (x .exit) ≡ changedBy c (now (x .entry)) ⌝ }
 {
-    let mut table = ports;
-    down(&mut table[p]);
-    table
+    match c {
+        Change::Kept => {}
+        Change::BroughtUp => up(x),
+        Change::TakenDown => down(x),
+        Change::Delegated(amount) => set_delegation(x, amount),
+        Change::Closed => close(x),
+        Change::Asked(required, preferred, transaction) => ask(x, required, preferred, transaction),
+    }
 }
 
-pub fn set_delegation_in(ports: [Port; 64], p: usize, amount: u32) -> [Port; 64]
+// The same of port p of the table, lent where it stands: no other port's record changes.
+pub fn update_in(ports: [Port; 64], p: usize, c: Change) -> [Port; 64]
     requires { ⌜ p < 64 ⌝ }
-    ensures { λ r. ⌜ r ≡ set ports p (delegated (getD ports p freshPort) amount) ⌝ }
+    ensures { λ r. ⌜ r ≡ set ports p (changedBy c (getD ports p freshPort)) ⌝ }
 {
     let mut table = ports;
-    set_delegation(&mut table[p], amount);
-    table
-}
-
-pub fn close_in(ports: [Port; 64], p: usize) -> [Port; 64]
-    requires { ⌜ p < 64 ⌝ }
-    ensures { λ r. ⌜ r ≡ set ports p (closed (getD ports p freshPort)) ⌝ }
-{
-    let mut table = ports;
-    close(&mut table[p]);
+    update(&mut table[p], c);
     table
 }
 

@@ -22,7 +22,7 @@ use Rattle.ports.specs.declared.Port.{Port}
 use Rattle.ports.specs.Ports.{closed, takenDown}
 use Rattle.ports.proofs.Port as T
 use Rattle.ports.proofs.Port.Laws as T′
-use Rattle.ports.proofs.Lent.{Good, vals, tyLent, good-closed, Held, Locals, opened, clears, leaves, After, ends, Walk, thin-meets}
+use Rattle.ports.proofs.Lent.{Good, vals, tyLent, good-closed, Held, Locals, opened, clears, leaves, After, ends, Walk, numbers, thin-meets, alone, asking}
 use Rattle.ports.proofs.down.Key.{name as #ports·down}
 use Rattle.ports.proofs.down as f
 use Rattle.ports.proofs.down.Statement as stated
@@ -53,13 +53,13 @@ module _ {M : Type 1} (𝓤 : URA M) (H : Heap 𝓤) (A : Atoms 𝓤) (W : Given
     Beside = ‵ (fdies tyLent l₁) ∷ ‵ (froom tyUnit l₀ 0) ∷ ‵ (fdies tyUnit l₀) ∷ ‵ (fat fullShare tyBool l₂ 0 (vbool (h .up))) ∷ ‵ (fdies tyBool l₂) ∷ []
 
     -- behind the branch
-    leave : (z : Port) → Good z → z ≡ takenDown h → Sq W (Held W κ q b o γ h C Λ l₀ l₁ ((tyBool, l₂) ∷ []) z Beside) (prop (Wp 𝓤 H C Λ E code-mir.t-3 (atReturn 𝓤 H E (After takenDown 𝓤 H A W κ q b o γ h))))
-    leave z good e = exec ! C Λ E code-mir.t-3 (atRet E (After takenDown 𝓤 H A W κ q b o γ h)) $
-        leaves W κ q b o γ h C Λ l₀ l₁ ((tyBool, l₂) ∷ []) z good (forget ! 3 refl $ move ! (3 ∷ 4 ∷ []) $ free1 ! $ free0 ! $ by ! (ends takenDown 𝓤 H A W κ q b o γ h z e))
+    leave : (z : Port) → Good z → z ≡ takenDown h → Sq W (Held W κ q b o γ h C Λ l₀ l₁ ((tyBool, l₂) ∷ []) z Beside) (prop (Wp 𝓤 H C Λ E code-mir.t-3 (atReturn 𝓤 H E (After (numbers 0) (alone takenDown) 𝓤 H A W κ q b o γ h tt))))
+    leave z good e = exec ! C Λ E code-mir.t-3 (atRet E (After (numbers 0) (alone takenDown) 𝓤 H A W κ q b o γ h tt)) $
+        leaves W κ q b o γ h C Λ l₀ l₁ ((tyBool, l₂) ∷ []) z good (forget ! 2 refl $ move ! (2 ∷ 3 ∷ []) $ free1 ! $ free0 ! $ by ! (ends (numbers 0) (alone takenDown) 𝓤 H A W κ q b o γ h tt z e))
 
-  walk : Walk takenDown 𝓤 H A W code.function C Λ
+  walk : Walk (numbers 0) (alone takenDown) 𝓤 H A W code.function C Λ
   unfolding takenDown
-  walk κ q b o γ h =
+  walk κ q b o γ h a are =
       enter ! C Λ code.function (vptr b o ∷ []) _ $ alloc1 ! (λ l₀. alloc1 ! (λ l₁. alloc1 ! (λ l₂. alloc0 ! $ params1 ! $ pass1 ! (init ! 2 refl (tt, tt)) $ pass0 ! $ move ! (6 ∷ 7 ∷ 8 ∷ 2 ∷ 3 ∷ 4 ∷ 5 ∷ []) $
       opened W κ q b o γ h tt (λ good.
       assigns ! (of-opd ! (load ! (from ! (hop ! (look ! 4 refl) (fld ! refl (stop !)))) (look-in ! 0 (sub ! 0 refl (whole !))))) (from ! (stop !)) (init ! 8 refl (tt, tt)) $ first ! $
@@ -74,4 +74,4 @@ unfolding code.routine tablesOf
 down-spec 𝓤 H 𝓜 𝓖 𝓡 =
     entered 𝓤 H (tripleOf 𝓤 H (𝓖 .A) f.signature (f.spec 𝓤 H (𝓖 .A) (𝓜 .mem) (𝓡 .run)))
     (tables 𝓤 H 𝓜 𝓡 code.env .C) (tables 𝓤 H 𝓜 𝓡 code.env .Λ) #ports·down code.function (code.unfolded 𝓤 H 𝓜 𝓡)
-    (thin-meets takenDown 𝓤 H (𝓖 .A) (givenOf 𝓤 H 𝓜 𝓖) code.function (tablesOf 𝓤 H 𝓜 (tables 𝓤 H 𝓜 𝓡 code.env)) (walk 𝓤 H (𝓖 .A) (givenOf 𝓤 H 𝓜 𝓖) _ _))
+    (thin-meets (numbers 0) (alone takenDown) 𝓤 H (𝓖 .A) (givenOf 𝓤 H 𝓜 𝓖) code.function (tablesOf 𝓤 H 𝓜 (tables 𝓤 H 𝓜 𝓡 code.env)) (walk 𝓤 H (𝓖 .A) (givenOf 𝓤 H 𝓜 𝓖) _ _))

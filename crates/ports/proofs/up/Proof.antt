@@ -16,7 +16,7 @@ use Rattle.ports.specs.declared.Port.{Port}
 use Rattle.ports.specs.Ports.{broughtUp}
 use Rattle.ports.proofs.Port as T
 use Rattle.ports.proofs.Port.Laws as T′
-use Rattle.ports.proofs.Lent.{Good, vals, opened, leaves, ends, Walk, thin-meets}
+use Rattle.ports.proofs.Lent.{Good, vals, opened, leaves, ends, Walk, numbers, thin-meets, alone}
 use Rattle.ports.proofs.up.Key.{name as #ports·up}
 use Rattle.ports.proofs.up as f
 use Rattle.ports.proofs.up.Statement as stated
@@ -25,16 +25,16 @@ use Rattle.ports.proofs.up.Code as code
 good-up : (h : Port) → Good h → Good (broughtUp h)
 good-up h good = LL.owes T.the-type T′.the-laws (broughtUp h) (refl, LL.owed T.the-type T′.the-laws h (vals h) good .1)
 
-walk : {M : Type 1} (𝓤 : URA M) (H : Heap 𝓤) (A : Atoms 𝓤) (W : Given 𝓤 H A) (C : Calls 𝓤 H) (Λ : Loops 𝓤 H) → Walk broughtUp 𝓤 H A W code.function C Λ
-walk 𝓤 H A W C Λ κ q b o γ h =
+walk : {M : Type 1} (𝓤 : URA M) (H : Heap 𝓤) (A : Atoms 𝓤) (W : Given 𝓤 H A) (C : Calls 𝓤 H) (Λ : Loops 𝓤 H) → Walk (numbers 0) (alone broughtUp) 𝓤 H A W code.function C Λ
+walk 𝓤 H A W C Λ κ q b o γ h a are =
     enter ! C Λ code.function (vptr b o ∷ []) _ $ alloc1 ! (λ l₀. alloc1 ! (λ l₁. alloc0 ! $ params1 ! $ pass1 ! (init ! 0 refl (tt, tt)) $ pass0 ! $ move ! (4 ∷ 5 ∷ 6 ∷ []) $
     opened W κ q b o γ h tt (λ good.
     assigns ! (of-opd ! (true-lit !)) (from ! (hop ! (look ! 4 refl) (fld ! refl (stop !)))) (store-in ! 0 (sub ! 0 refl (whole !)) (tt, tt)) $
-    leaves W κ q b o γ h C Λ l₀ l₁ [] (broughtUp h) (good-up h good) (free0 ! $ by ! (ends broughtUp 𝓤 H A W κ q b o γ h (broughtUp h) refl)))))
+    leaves W κ q b o γ h C Λ l₀ l₁ [] (broughtUp h) (good-up h good) (free0 ! $ by ! (ends (numbers 0) (alone broughtUp) 𝓤 H A W κ q b o γ h a (broughtUp h) refl)))))
 
 pub up-spec : {M : Type 1} → stated.statement M
 unfolding code.routine tablesOf
 up-spec 𝓤 H 𝓜 𝓖 𝓡 =
     entered 𝓤 H (tripleOf 𝓤 H (𝓖 .A) f.signature (f.spec 𝓤 H (𝓖 .A) (𝓜 .mem) (𝓡 .run)))
     (tables 𝓤 H 𝓜 𝓡 code.env .C) (tables 𝓤 H 𝓜 𝓡 code.env .Λ) #ports·up code.function (code.unfolded 𝓤 H 𝓜 𝓡)
-    (thin-meets broughtUp 𝓤 H (𝓖 .A) (givenOf 𝓤 H 𝓜 𝓖) code.function (tablesOf 𝓤 H 𝓜 (tables 𝓤 H 𝓜 𝓡 code.env)) (walk 𝓤 H (𝓖 .A) (givenOf 𝓤 H 𝓜 𝓖) _ _))
+    (thin-meets (numbers 0) (alone broughtUp) 𝓤 H (𝓖 .A) (givenOf 𝓤 H 𝓜 𝓖) code.function (tablesOf 𝓤 H 𝓜 (tables 𝓤 H 𝓜 𝓡 code.env)) (walk 𝓤 H (𝓖 .A) (givenOf 𝓤 H 𝓜 𝓖) _ _))
