@@ -1,3 +1,3 @@
 pub mod Cases
 pub mod Ends
-pub mod Leaving
+pub mod Parts

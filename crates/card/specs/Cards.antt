@@ -6,6 +6,7 @@ use lib.ListN.{getD, set}
 use lib.Dec.{ltb}
 use Rattle.octets.specs.Tests.{every}
 use Rattle.ports.specs.declared.Port.{Port}
+use Rattle.ports.specs.declared.Counter.{Counter}
 use Rattle.ports.specs.Ports.{freshPort}
 use Rattle.pool.specs.declared.Pool.{Pool}
 use Rattle.card.specs.declared.Card.{Card}
@@ -40,6 +41,19 @@ withPool card pool =
       ports = card .ports;
       pool = pool;
       counter = card .counter;
+      «port_count» = card .«port_count»;
+      «channel_count» = card .«channel_count»;
+      «entry_count» = card .«entry_count»;
+      «white_cac» = card .«white_cac»;
+      «add_cac» = card .«add_cac»;
+    }
+
+abbrev pub withCounter : Card → Counter → Card
+withCounter card counter =
+    record {
+      ports = card .ports;
+      pool = card .pool;
+      counter = counter;
       «port_count» = card .«port_count»;
       «channel_count» = card .«channel_count»;
       «entry_count» = card .«entry_count»;

@@ -1,26 +1,51 @@
--- A call on the parts of a card that it reads and writes, so that nothing else is copied. Assumes nothing: these are definitions.
+-- A call on the parts of a card: the pool's maps are lent, and what else it asks for stands in its terms, so that the card is not copied.
+-- Assumes nothing: these are definitions.
 use Prim.Native.Nat.{ℕ, _<_}
 use mathlib.Core.Path.{_≡_}
 use mathlib.Core.List.{List}
-use Rattle.flows.specs.declared.Flow.{Flow}
-use Rattle.ports.specs.declared.Port.{Port}
+use Rattle.ports.specs.declared.Change.{Change}
+use Rattle.ports.specs.Ports.{changedBy}
+use Rattle.pool.specs.declared.Pool.{Pool}
 use Rattle.card.specs.declared.Card.{Card}
-use Rattle.card.specs.Cards.{portAt}
-use Rattle.card.specs.Outcome.{Outcome}
-use Rattle.card.specs.Calls.{leaveOf}
+use Rattle.card.specs.declared.Done.{Done}
+use Rattle.card.specs.declared.Terms.{Terms}
+use Rattle.card.specs.declared.Effect.{Effect}
+use Rattle.card.specs.Cards.{portAt, withPort, withPool, withCounter}
+use Rattle.card.specs.Outcome.{Outcome, Ends}
 
--- the card has these maps and this count of ports, and x is the record of port p
-pub record HasParts (card : Card) (owner channel : List ℕ) (count p : ℕ) (x : Port) : Type 0 where
-  pub owners : card .pool .owner ≡ owner
-  pub channels : card .pool .channel ≡ channel
-  pub ports : card .«port_count» ≡ count
-  pub port : p < 64 → portAt card p ≡ x
+-- what a call on the port at this place of the table asks of the card besides the pool's maps
+abbrev pub termsAt : Card → ℕ → Terms
+termsAt card at =
+    record {
+      at = at;
+      «port_count» = card .«port_count»;
+      «channel_count» = card .«channel_count»;
+      «entry_count» = card .«entry_count»;
+      «white_cac» = card .«white_cac»;
+      «add_cac» = card .«add_cac»;
+      counter = card .counter;
+      x = portAt card at;
+    }
 
--- a call that comes to o gives its number, and the owner map of its card
-pub record Leaves (o : Outcome) (r : ℕ) (owner : List ℕ) : Type 0 where
-  pub number : r ≡ o .number
-  pub owners : owner ≡ o .card .pool .owner
+-- these are the card's terms, and the place is port p's where p is below 64
+pub record HasTerms (card : Card) (p : ℕ) (terms : Terms) : Type 0 where
+  pub same : termsAt card (terms .at) ≡ terms
+  pub place : p < 64 → terms .at ≡ p
 
--- what a leave gives on every card that has these parts
-abbrev pub LeavesOn : List ℕ → List ℕ → List ℕ → ℕ → Port → ℕ → Flow → ℕ → List ℕ → Type 0
-LeavesOn table owner channel count x p f r after = (card : Card) → HasParts card owner channel count p x → Leaves (leaveOf table card p f) r after
+-- the card whose port at this place has changed: no other port's record changes
+abbrev pub changedAt : Card → ℕ → Change → Card
+changedAt card at c = withPort card at (changedBy c (portAt card at))
+
+-- the card with these maps, and with what a call on them gave
+abbrev pub doneWith : Card → ℕ → Pool → Effect → Done
+doneWith card at pool r =
+    record {
+      card = withCounter (changedAt (withPool card pool) at (r .change)) (r .counter);
+      number = r .number;
+      length = r .length;
+    }
+
+-- a function that was lent the maps `before` and left them as `after`, that was lent a buffer with the octets `text` and left it with
+-- `written`, and gave r: on every card with these terms and maps that is what `o` comes to
+pub record ComesTo (o : Card → Outcome) (p : ℕ) (terms : Terms) (before after : Pool) (r : Effect) (text written : List ℕ) : Type 0 where
+  pub each : (card : Card) → HasTerms card p terms → Ends (o (withPool card before)) (doneWith card (terms .at) after r) text written

@@ -1,17 +1,19 @@
 // The card by value: start, port up, port down, set delegation, leave, and what a host may read.
 use flows::Flow;
 use pool::Pool;
+use ports::Change;
 use ports::Counter;
 use ports::Port;
 ghost use mathlib.Core.Path.{_≡_};
-ghost use mathlib.Core.Bool.{true};
-ghost use Prim.Native.Nat.{_<_};
+ghost use mathlib.Core.Bool.{Bool, true};
+ghost use mathlib.Core.List.{List};
+ghost use Prim.Native.Nat.{ℕ, _<_};
 ghost use lib.ListN.{length};
-ghost use Rattle.pool.specs.Pool.{committedOf, extrasOf};
+ghost use Rattle.pool.specs.Pool.{extrasOf, poolOf, withOwner};
 ghost use Rattle.card.specs.Cards.{isPort};
-ghost use Rattle.card.specs.Outcome.{keeps, doneOf};
+ghost use Rattle.card.specs.Outcome.{doneOf};
 ghost use Rattle.card.specs.Calls.{portUpOf, portDownOf, setDelegationOf, leaveOf};
-ghost use Rattle.card.specs.Parts.{LeavesOn};
+ghost use Rattle.card.specs.Parts.{termsAt, doneWith, ComesTo};
 ghost use Rattle.card.specs.Start.{freshCard, firstOk, startOf};
 ghost use Rattle.card.specs.Figures.{upOf, delegationOf, committedAt};
 
@@ -34,6 +36,29 @@ pub struct Done {
     pub card: Card,
     pub number: u8,
     pub length: usize,
+}
+
+// What a call asks of the card besides the pool's maps: x is the record of the port that it is about, which lies at `at` in the table.
+#[repr(C)]
+pub struct Terms {
+    pub at: usize,
+    pub port_count: usize,
+    pub channel_count: usize,
+    pub entry_count: usize,
+    pub white_cac: bool,
+    pub add_cac: bool,
+    pub counter: Counter,
+    pub x: Port,
+}
+
+// What a call on lent maps gives: the number of 01's table, how many octets of reply are written, the counter behind it, and what becomes of
+// the port's record.
+#[repr(C)]
+pub struct Effect {
+    pub number: u8,
+    pub length: usize,
+    pub counter: Counter,
+    pub change: Change,
 }
 
 #[repr(C)]
@@ -119,28 +144,6 @@ fn first_ok(first: u32) -> bool
     first <= 16777215
 }
 
-// A refusal changes nothing.
-pub fn kept(card: Card, number: u8) -> Done
-    ensures { λ r. ⌜ r ≡ doneOf (keeps card number) ⌝ }
-{
-    Done {
-        card,
-        number,
-        length: 0,
-    }
-}
-
-// Done, with a reply of n octets.
-pub fn written(card: Card, n: usize) -> Done
-    ensures { λ r. ⌜ r ≡ record { card = card; number = 0; length = n } ⌝ }
-{
-    Done {
-        card,
-        number: 0,
-        length: n,
-    }
-}
-
 pub fn is_port(count: usize, p: usize) -> bool
     ensures test { λ r. ⌜ r ≡ isPort count p ⌝ }
     ensures inside { λ r. ⌜ (r ≡ true → p < 64) ⌝ }
@@ -151,96 +154,59 @@ pub fn is_port(count: usize, p: usize) -> bool
     p < count
 }
 
+// ---- the calls, by value
+
 pub fn port_up(card: Card, p: usize) -> Done
     ensures { λ r. ⌜ r ≡ doneOf (portUpOf card p) ⌝ }
 {
-    if !is_port(card.port_count, p) {
-        return kept(card, 7);
-    }
-    let mut c = card;
-    let table = c.ports;
-    let changed = ports::up_in(table, p);
-    c.ports = changed;
-    kept(c, 0)
+    let at = slot(p);
+    let r = port_up_in(terms_at(card, at), p);
+    let pool = card.pool;
+    done_with(card, at, pool, r)
 }
 
 pub fn port_down(card: Card, p: usize) -> Done
     ensures { λ r. ⌜ r ≡ doneOf (portDownOf card p) ⌝ }
 {
-    if !is_port(card.port_count, p) {
-        return kept(card, 7);
-    }
-    let mut c = card;
-    let x = c.ports[p];
-    if !x.up {
-        return kept(c, 0);
-    }
-    let table = c.ports;
-    let changed = ports::down_in(table, p);
-    c.ports = changed;
-    let pool = c.pool;
-    c.pool = pool.end_all(p as u8);
-    kept(c, 0)
+    let at = slot(p);
+    let mut pool = card.pool;
+    let mut owner = pool.owner;
+    let r = port_down_in(&mut owner, terms_at(card, at), p);
+    pool.owner = owner;
+    done_with(card, at, pool, r)
 }
 
 pub fn set_delegation(card: Card, channels: &[u32; 2816], p: usize, amount: u32) -> Done
     ensures { λ r. ⌜ r ≡ doneOf (setDelegationOf (now (channels .entry)) card p amount) ⌝ }
 {
-    if !is_port(card.port_count, p) {
-        return kept(card, 7);
-    }
-    let mut c = card;
-    let pool = c.pool;
-    if (amount as u64) < committed_in(channels, pool, p as u8) {
-        return kept(c, 11);
-    }
-    let table = c.ports;
-    let changed = ports::set_delegation_in(table, p, amount);
-    c.ports = changed;
-    kept(c, 0)
+    let at = slot(p);
+    let terms = terms_at(card, at);
+    let pool = card.pool;
+    let r = set_delegation_in(
+        &pool.owner,
+        &pool.channel,
+        &pool.charged,
+        channels,
+        terms,
+        p,
+        amount,
+    );
+    done_with(card, at, pool, r)
 }
 
 pub fn leave(card: Card, channels: &[u32; 2816], p: usize, f: Flow) -> Done
     ensures { λ r. ⌜ r ≡ doneOf (leaveOf (now (channels .entry)) card p f) ⌝ }
 {
-    let mut c = card;
     let at = slot(p);
-    let x = c.ports[at];
-    let mut pool = c.pool;
+    let terms = terms_at(card, at);
+    let mut pool = card.pool;
     let mut owner = pool.owner;
-    let number = leave_in(&mut owner, &pool.channel, channels, c.port_count, x, p, f);
+    let r = leave_in(&mut owner, &pool.channel, channels, terms, p, f);
     pool.owner = owner;
-    c.pool = pool;
-    kept(c, number)
+    done_with(card, at, pool, r)
 }
 
-// The same on the parts of a card that it reads and writes: the owner map becomes that of the card afterwards.
-pub fn leave_in(
-    owner: &mut [u8; 512],
-    channel: &[u8; 512],
-    channels: &[u32; 2816],
-    port_count: usize,
-    x: Port,
-    p: usize,
-    f: Flow,
-) -> u8
-    requires { ⌜ length (now owner) ≡ 512 ⌝ }
-    ensures { λ r. ⌜ LeavesOn (now (channels .entry)) (now (owner .entry)) (now (channel .entry)) «port_count» x p f r (now (owner .exit)) ⌝ }
-{
-    if !is_port(port_count, p) {
-        return 7;
-    }
-    if !x.up {
-        return 6;
-    }
-    if !flows::good_flow(f) {
-        return 8;
-    }
-    if pool::end_in(owner, channel, channels, p as u8, f) {
-        return 0;
-    }
-    10
-}
+// ---- the parts of a card
 
 // Where port p's record lies in the table; a number that is no port's is not looked at.
 pub fn slot(p: usize) -> usize
@@ -249,11 +215,143 @@ pub fn slot(p: usize) -> usize
     if 64 <= p { 63 } else { p }
 }
 
-// The port's committed amount, computed from its records.
-pub fn committed_in(channels: &[u32; 2816], pool: Pool, p: u8) -> u64
-    ensures { λ r. ⌜ r ≡ committedOf (now (channels .entry)) pool p ⌝ }
+pub fn terms_at(card: Card, at: usize) -> Terms
+    requires { ⌜ at < 64 ⌝ }
+    ensures { λ r. ⌜ r ≡ termsAt card at ⌝ }
 {
-    pool::committed_of(channels, &pool.owner, &pool.channel, &pool.charged, p)
+    let counter = card.counter;
+    let x = card.ports[at];
+    Terms {
+        at,
+        port_count: card.port_count,
+        channel_count: card.channel_count,
+        entry_count: card.entry_count,
+        white_cac: card.white_cac,
+        add_cac: card.add_cac,
+        counter,
+        x,
+    }
+}
+
+// The card with these maps, and with what a call on them gave.
+pub fn done_with(card: Card, at: usize, pool: Pool, r: Effect) -> Done
+    requires { ⌜ at < 64 ⌝ }
+    ensures { λ d. ⌜ d ≡ doneWith card at pool r ⌝ }
+{
+    let mut c = card;
+    let table = c.ports;
+    let change = r.change;
+    let changed = ports::update_in(table, at, change);
+    c.ports = changed;
+    c.pool = pool;
+    let counter = r.counter;
+    c.counter = counter;
+    Done {
+        card: c,
+        number: r.number,
+        length: r.length,
+    }
+}
+
+// Nothing is written, and the port's record stays as it is.
+pub fn unchanged(terms: Terms, number: u8) -> Effect
+    ensures { λ r. ⌜ r ≡ record { number = number; length = 0; counter = terms .counter; change = Change.Kept } ⌝ }
+{
+    let counter = terms.counter;
+    Effect {
+        number,
+        length: 0,
+        counter,
+        change: Change::Kept,
+    }
+}
+
+// Done: the port's record changes, and n octets of reply are written.
+pub fn changed(terms: Terms, change: Change, n: usize) -> Effect
+    ensures { λ r. ⌜ r ≡ record { number = 0; length = n; counter = terms .counter; change = change } ⌝ }
+{
+    let counter = terms.counter;
+    Effect {
+        number: 0,
+        length: n,
+        counter,
+        change,
+    }
+}
+
+// ---- the same calls on the parts that they read and write: the maps become those of the card afterwards
+
+// Whatever the maps hold.
+pub fn port_up_in(terms: Terms, p: usize) -> Effect
+    ensures { λ r. ⌜ ((pool : Pool) (text : List ℕ) → ComesTo (λ card. portUpOf card p) p terms pool pool r text text) ⌝ }
+{
+    if !is_port(terms.port_count, p) {
+        return unchanged(terms, 7);
+    }
+    changed(terms, Change::BroughtUp, 0)
+}
+
+// Whatever the other maps hold.
+pub fn port_down_in(owner: &mut [u8; 512], terms: Terms, p: usize) -> Effect
+    requires { ⌜ length (now owner) ≡ 512 ⌝ }
+    ensures { λ r. ⌜ ((pool : Pool) (text : List ℕ) → ComesTo (λ card. portDownOf card p) p terms (withOwner pool (now (owner .entry))) (withOwner pool (now (owner .exit))) r text text) ⌝ }
+{
+    if !is_port(terms.port_count, p) {
+        return unchanged(terms, 7);
+    }
+    let x = terms.x;
+    if !x.up {
+        return unchanged(terms, 0);
+    }
+    pool::end_all_in(owner, p as u8);
+    changed(terms, Change::TakenDown, 0)
+}
+
+pub fn set_delegation_in<'a>(
+    owner: &'a [u8; 512],
+    channel: &'a [u8; 512],
+    charged: &'a [bool; 512],
+    channels: &[u32; 2816],
+    terms: Terms,
+    p: usize,
+    amount: u32,
+) -> Effect
+    ensures { λ r. ⌜ ((accounting text : List ℕ) → ComesTo (λ card. setDelegationOf (now (channels .entry)) card p amount) p terms (poolOf (now (owner .entry)) (now (channel .entry)) (now (charged .entry)) accounting) (poolOf (now (owner .entry)) (now (channel .entry)) (now (charged .entry)) accounting) r text text) ⌝ }
+{
+    if !is_port(terms.port_count, p) {
+        return unchanged(terms, 7);
+    }
+    if (amount as u64) < pool::committed_of(channels, owner, channel, charged, p as u8) {
+        return unchanged(terms, 11);
+    }
+    changed(terms, Change::Delegated(amount), 0)
+}
+
+pub fn leave_in(
+    owner: &mut [u8; 512],
+    channel: &[u8; 512],
+    channels: &[u32; 2816],
+    terms: Terms,
+    p: usize,
+    f: Flow,
+) -> Effect
+    requires { ⌜ length (now owner) ≡ 512 ⌝ }
+    ensures { λ r. ⌜ ((charged : List Bool) (accounting text : List ℕ) → ComesTo (λ card. leaveOf (now (channels .entry)) card p f) p terms (poolOf (now (owner .entry)) (now (channel .entry)) charged accounting) (poolOf (now (owner .exit)) (now (channel .entry)) charged accounting) r text text) ⌝ }
+{
+    if !is_port(terms.port_count, p) {
+        return unchanged(terms, 7);
+    }
+    let x = terms.x;
+    if !x.up {
+        return unchanged(terms, 6);
+    }
+    if !flows::good_flow(f) {
+        return unchanged(terms, 8);
+    }
+    if pool::end_in(owner, channel, channels, p as u8, f) {
+        return unchanged(terms, 0);
+    }
+    unchanged(terms, 10)
 }
 
 // ---- what a host may read
@@ -285,7 +383,7 @@ pub fn committed(card: Card, channels: &[u32; 2816], p: usize) -> u64
         return 0;
     }
     let pool = card.pool;
-    committed_in(channels, pool, p as u8)
+    pool::committed_of(channels, &pool.owner, &pool.channel, &pool.charged, p as u8)
 }
 
 pub fn extras(card: Card) -> usize

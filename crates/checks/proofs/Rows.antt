@@ -1,13 +1,16 @@
 -- The rows of the table.
 --     row-54, ..       the rows about TLVs, each from the tests that lead to it
+--     located-by       the port that is named, from the terms of a call on it
+--     port-unknown, .. the row about the port, from its number and whether it is up
 --     passed-tells     all that a message that passes has shown
+--     passed-named     and its Target names the port that the verdict gives
 --     refused-tells    the codes with which a message can be refused, each with the test that failed and those before it
 --     passes           what a message must show to pass
 -- Assumes nothing.
-use mathlib.Core.Path.{_≡_, refl, ap}
+use mathlib.Core.Path.{_≡_, refl, sym, ap, _∙_}
 use mathlib.Core.Bool.{Bool, true, false, cond}
 use mathlib.Core.List.{List, [], _∷_}
-use Prim.Native.Nat.{ℕ, _<_}
+use Prim.Native.Nat.{ℕ, _≤_, _<_}
 use native.Mathlib.Omega.{arith}
 use lib.ListN.{length}
 use lib.Dec.{eqb, ltb}
@@ -19,12 +22,16 @@ use Rattle.rows.specs.declared.Found.{Found}
 use Rattle.rows.specs.declared.Found.the-variants.{At, Nothing}
 use Rattle.circuits.specs.Circuits.{portOf}
 use Rattle.circuits.proofs.Circuits.{port-found}
+use Rattle.pool.specs.declared.Pool.{Pool}
 use Rattle.card.specs.declared.Card.{Card}
-use Rattle.card.specs.Cards.{portAt}
+use Rattle.card.specs.declared.Terms.{Terms}
+use Rattle.card.specs.Cards.{portAt, withPool}
+use Rattle.card.specs.Parts.{HasTerms}
+use Rattle.card.proofs.Parts.{ports-are, is-up}
 use Rattle.checks.specs.Named.{needed, missing}
 use Rattle.checks.specs.declared.Verdict.{Verdict}
 use Rattle.checks.specs.declared.Verdict.the-variants.{Refused, Passed}
-use Rattle.checks.specs.Table.{handled, resultOk, idIn, located, faults, namedRows, tableOf}
+use Rattle.checks.specs.Table.{handled, resultOk, idIn, numberOf, portNamed, Located, located, faults, namedRows, tableOf}
 
 -- how many octets the missing types take
 abbrev lacks : ℕ → List ℕ → ℕ
@@ -46,10 +53,48 @@ module _ (ids : List ℕ) (card : Card) (kind : ℕ) (s : List ℕ) where
     unfolding namedRows
     row-55 h = rw (none-by (lacks kind s) whole, some-by (length (faults kind s)) h)
 
-    pub row-port : {id : List ℕ} → ltb 0 (length (faults kind s)) ≡ false → id ≡ idIn s
-        → located card (portOf ids (card .«port_count») id) ≡ namedRows ids card kind s
+    pub row-port : ltb 0 (length (faults kind s)) ≡ false → located card (portOf ids (card .«port_count») (idIn s)) ≡ namedRows ids card kind s
     unfolding namedRows
-    row-port h e = rw (none-by (lacks kind s) whole, none-by (length (faults kind s)) h, e)
+    row-port h = rw (none-by (lacks kind s) whole, none-by (length (faults kind s)) h)
+
+-- ---- the port by its number
+module _ (ids : List ℕ) (count : ℕ) (s : List ℕ) where
+  found-at : (f : Found) → numberOf f < 64 → f ≡ At (numberOf f)
+  unfolding numberOf
+  found-at Nothing l = absurd (omega (arith, l))
+  found-at (At p) l = refl
+
+  none-at : (f : Found) → portOf ids count (idIn s) ≡ f → 64 ≤ numberOf f → f ≡ Nothing
+  unfolding numberOf
+  none-at Nothing e l = refl
+  none-at (At p) e l = absurd (omega (arith, l, port-found ids count (idIn s) e .small))
+
+  module _ {named : ℕ} (e : named ≡ portNamed ids count s) where
+    pub is-named : named < 64 → portOf ids count (idIn s) ≡ At named
+    unfolding portNamed
+    is-named l = found-at (portOf ids count (idIn s)) (omega (arith, e)) ∙ ap At (sym e)
+
+    pub none-named : 64 ≤ named → portOf ids count (idIn s) ≡ Nothing
+    unfolding portNamed
+    none-named l = none-at (portOf ids count (idIn s)) refl (omega (arith, e))
+
+-- from the terms of a call on that port, whatever the maps hold
+pub located-by : {ids : List ℕ} {card : Card} {s : List ℕ} {named : ℕ} {terms : Terms} (pool : Pool) → HasTerms card named terms
+    → named ≡ portNamed ids (terms .«port_count») s → Located ids (withPool card pool) s named (terms .x .up)
+located-by {ids} {s = s} pool h e = record { port = e ∙ ap (λ (n : ℕ). portNamed ids n s) (sym (ports-are h)); state = λ l. is-up h l refl }
+
+module _ (ids : List ℕ) (card : Card) (s : List ℕ) {named : ℕ} {up : Bool} (g : Located ids card s named up) where
+  pub port-unknown : 64 ≤ named → Refused 0x500 ≡ located card (portOf ids (card .«port_count») (idIn s))
+  unfolding located
+  port-unknown l = rw (none-named ids (card .«port_count») s (g .port) l)
+
+  pub port-up : named < 64 → up ≡ true → Passed named ≡ located card (portOf ids (card .«port_count») (idIn s))
+  unfolding located
+  port-up l u = rw (is-named ids (card .«port_count») s (g .port) l, g .state l, u)
+
+  pub port-down : named < 64 → up ≡ false → Refused 0x6 ≡ located card (portOf ids (card .«port_count») (idIn s))
+  unfolding located
+  port-down l u = rw (is-named ids (card .«port_count») s (g .port) l, g .state l, u)
 
 -- ---- what a verdict tells
 -- every row is passed, and the message's Target names port p, which is up
@@ -137,6 +182,10 @@ module _ (ids : List ℕ) (card : Card) (h : Header) (s : List ℕ) where
 
   pub passed-tells : {p : ℕ} → tableOf ids card h s ≡ Passed p → TablePassed ids card h s p
   passed-tells e = rw e at tells
+
+  pub passed-named : {p : ℕ} → tableOf ids card h s ≡ Passed p → portNamed ids (card .«port_count») s ≡ p
+  unfolding portNamed numberOf
+  passed-named e = ap numberOf (passed-tells e .found)
 
   pub refused-tells : {code : ℕ} → tableOf ids card h s ≡ Refused code → TableRefused ids card h s code
   refused-tells e = rw e at tells

@@ -1,6 +1,7 @@
 -- The table of result codes (01, "A message, check by check"): row by row, each over the whole message before the next, and what the
 -- Status-Info of each encloses. s is what follows the header. Assumes nothing: these are definitions.
-use Prim.Native.Nat.{ℕ}
+use Prim.Native.Nat.{ℕ, _<_}
+use mathlib.Core.Path.{_≡_}
 use mathlib.Core.Bool.{Bool, true, false, cond, _||_}
 use mathlib.Core.List.{List, [], _∷_}
 use lib.ListN.{length}
@@ -38,6 +39,20 @@ resultOk kind result =
 -- the circuit id of the message's Target
 unfoldable pub idIn : List ℕ → List ℕ
 idIn s = circuitId (firstOf 0x1000 (itemsOf s))
+
+-- the port that is found; 64 where none is
+unfoldable pub numberOf : Found → ℕ
+numberOf Nothing = 64
+numberOf (At p) = p
+
+-- the port whose circuit id stands in the message's Target, among the first `count`; 64 where it is no port's
+unfoldable pub portNamed : List ℕ → ℕ → List ℕ → ℕ
+portNamed ids count s = numberOf (portOf ids count (idIn s))
+
+-- the message's Target names this port, and `up` tells whether it is up
+pub record Located (ids : List ℕ) (card : Card) (s : List ℕ) (named : ℕ) (up : Bool) : Type 0 where
+  pub port : named ≡ portNamed ids (card .«port_count») s
+  pub state : named < 64 → portAt card named .up ≡ up
 
 -- port unknown, port down
 unfoldable pub located : Card → Found → Verdict

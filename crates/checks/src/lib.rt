@@ -9,8 +9,8 @@ use rows::Found;
 use tlv::First;
 ghost use mathlib.Core.Path.{_≡_};
 ghost use mathlib.Core.Bool.{false};
-ghost use mathlib.Core.List.{[], _∷_};
-ghost use Prim.Native.Nat.{_≤_};
+ghost use mathlib.Core.List.{List, [], _∷_};
+ghost use Prim.Native.Nat.{ℕ, _≤_};
 ghost use lib.ListN.{length};
 ghost use lib.Dec.{ltb};
 ghost use Rattle.octets.specs.Writing.{Wrote};
@@ -18,7 +18,7 @@ ghost use Rattle.items.specs.Items.{itemsOf};
 ghost use Rattle.circuits.specs.Circuits.{portOf};
 ghost use Rattle.replies.specs.Replies.{refusalOf};
 ghost use Rattle.checks.specs.Named.{beside, needed, missing, singleOf, fromFault};
-ghost use Rattle.checks.specs.Table.{handled, resultOk, idIn, located, faults, namedRows, tableOf, copyOf, enclosedOf, refusedOf};
+ghost use Rattle.checks.specs.Table.{handled, resultOk, idIn, portNamed, Located, located, faults, namedRows, tableOf, copyOf, enclosedOf, refusedOf};
 
 pub enum Verdict {
     // The result code of the row that refuses the message.
@@ -27,8 +27,20 @@ pub enum Verdict {
     Passed(u8),
 }
 
-pub fn check_table(ids: &[u8; 4096], card: Card, h: Header, tlvs: &[u8]) -> Verdict
-    ensures { λ r. ⌜ r ≡ tableOf (now (ids .entry)) card h (now (tlvs .entry)) ⌝ }
+// The port whose circuit id stands in the message's Target; 64 where it is no port's.
+pub fn port_named(ids: &[u8; 4096], port_count: usize, tlvs: &[u8]) -> usize
+    ensures { λ r. ⌜ r ≡ portNamed (now (ids .entry)) «port_count» (now (tlvs .entry)) ⌝ }
+{
+    let found = circuits::port_of(ids, port_count, id_in(tlvs));
+    match found {
+        Found::Nothing => 64,
+        Found::At(p) => p as usize,
+    }
+}
+
+// `named` is what `port_named` gave, and `up` tells whether that port is up.
+pub fn check_table(named: usize, up: bool, h: Header, tlvs: &[u8]) -> Verdict
+    ensures { λ r. ⌜ ((ids : List ℕ) (card : Card) → Located ids card (now (tlvs .entry)) named up → r ≡ tableOf ids card h (now (tlvs .entry))) ⌝ }
 {
     if !handled(h.kind) {
         return Verdict::Refused(0x51);
@@ -39,11 +51,11 @@ pub fn check_table(ids: &[u8; 4096], card: Card, h: Header, tlvs: &[u8]) -> Verd
     if !tlv::check_list(tlvs, tlv::depth_of(h.result), false) {
         return Verdict::Refused(0x53);
     }
-    check_named(ids, card, h.kind, tlvs)
+    check_named(named, up, h.kind, tlvs)
 }
 
-fn check_named(ids: &[u8; 4096], card: Card, kind: u8, tlvs: &[u8]) -> Verdict
-    ensures { λ r. ⌜ r ≡ namedRows (now (ids .entry)) card kind (now (tlvs .entry)) ⌝ }
+fn check_named(named: usize, up: bool, kind: u8, tlvs: &[u8]) -> Verdict
+    ensures { λ r. ⌜ ((ids : List ℕ) (card : Card) → Located ids card (now (tlvs .entry)) named up → r ≡ namedRows ids card kind (now (tlvs .entry))) ⌝ }
 {
     if is_missing(kind, tlvs) {
         return Verdict::Refused(0x54);
@@ -51,23 +63,19 @@ fn check_named(ids: &[u8; 4096], card: Card, kind: u8, tlvs: &[u8]) -> Verdict
     if has_fault(kind, tlvs) {
         return Verdict::Refused(0x55);
     }
-    check_port(ids, card, id_in(tlvs))
+    check_port(named, up)
 }
 
-fn check_port(ids: &[u8; 4096], card: Card, id: &[u8]) -> Verdict
-    ensures { λ r. ⌜ r ≡ located card (portOf (now (ids .entry)) (card .«port_count») (now (id .entry))) ⌝ }
+fn check_port(named: usize, up: bool) -> Verdict
+    ensures { λ r. ⌜ ((ids : List ℕ) (card : Card) (s : List ℕ) → Located ids card s named up → r ≡ located card (portOf ids (card .«port_count») (idIn s))) ⌝ }
 {
-    let found = circuits::port_of(ids, card.port_count, id);
-    match found {
-        Found::Nothing => Verdict::Refused(0x500),
-        Found::At(p) => {
-            let x = card.ports[p as usize];
-            if x.up {
-                return Verdict::Passed(p);
-            }
-            Verdict::Refused(0x6)
-        }
+    if 64 <= named {
+        return Verdict::Refused(0x500);
     }
+    if up {
+        return Verdict::Passed(named as u8);
+    }
+    Verdict::Refused(0x6)
 }
 
 fn handled(kind: u8) -> bool

@@ -1,10 +1,10 @@
 // Multicast Replication Control (144) about port p, which passed the table: its commands in order.
 use card::Card;
-use card::Done;
+use card::Effect;
 use commands::Terms;
 use fields::COMMAND;
 use header::Header;
-use pool::Pool;
+use ports::Change;
 use tlv::First;
 ghost use mathlib.Core.Path.{_≡_};
 ghost use mathlib.Core.List.{_++_};
@@ -13,62 +13,48 @@ ghost use lib.ListN.{length};
 ghost use Rattle.octets.specs.Writing.{Wrote};
 ghost use Rattle.writers.specs.Tlvs.{tlvOf, targetOf, sequenceOf};
 ghost use Rattle.pool.specs.Pool.{poolOf, Whole};
-ghost use Rattle.card.specs.Cards.{withPool};
 ghost use Rattle.card.specs.Outcome.{Ends};
+ghost use Rattle.card.specs.Parts.{ComesTo};
 ghost use Rattle.control.specs.Control.{failureOf, allGood, commandsFrom, commandsIn, controlled, wrote, Controls};
 
+// The maps become those of the card afterwards; no port's record changes.
 pub fn control(
-    card: Card,
+    owner: &mut [u8; 512],
+    channel: &mut [u8; 512],
+    charged: &mut [bool; 512],
+    accounting: &mut [u8; 512],
     ids: &[u8; 4096],
     channels: &[u32; 2816],
+    terms: card::Terms,
     h: Header,
-    p: u8,
     tlvs: &[u8],
     reply: &mut [u8],
-) -> Done
-    requires { ⌜ (4608 ≤ length (now reply)) × (p < 64) × (length (now tlvs) ≤ 4096) ⌝ }
-    ensures { λ d. ⌜ Ends (controlled (now (ids .entry)) (now (channels .entry)) card h p (now (tlvs .entry))) d (now (reply .entry)) (now (reply .exit)) ⌝ }
+) -> Effect
+    requires { ⌜ (4608 ≤ length (now reply)) × (terms .at < 64) × (length (now tlvs) ≤ 4096) × Whole (poolOf (now owner) (now channel) (now charged) (now accounting)) ⌝ }
+    ensures { λ r. ⌜ ComesTo (λ card. controlled (now (ids .entry)) (now (channels .entry)) card h (terms .at) (now (tlvs .entry))) (terms .at) terms (poolOf (now (owner .entry)) (now (channel .entry)) (now (charged .entry)) (now (accounting .entry))) (poolOf (now (owner .exit)) (now (channel .exit)) (now (charged .exit)) (now (accounting .exit))) r (now (reply .entry)) (now (reply .exit)) ⌝ }
 {
-    run_commands(card, channels, h, circuits::id_at(ids, p), p, tlvs, reply)
-}
-
-fn run_commands(
-    card: Card,
-    channels: &[u32; 2816],
-    h: Header,
-    id: &[u8],
-    p: u8,
-    tlvs: &[u8],
-    reply: &mut [u8],
-) -> Done
-    requires { ⌜ (4608 ≤ length (now reply)) × (p < 64) × (length (now id) < 64) × (length (now tlvs) ≤ 4096) ⌝ }
-    ensures { λ d. ⌜ Ends (commandsFrom (now (channels .entry)) h (now (id .entry)) p card 1 (commandsIn (now (tlvs .entry)))) d (now (reply .entry)) (now (reply .exit)) ⌝ }
-{
-    let x = card.ports[p as usize];
-    let terms = Terms {
+    let at = terms.at;
+    let p = at as u8;
+    let x = terms.x;
+    let asked = Terms {
         port: p,
-        channel_count: card.channel_count,
+        channel_count: terms.channel_count,
         delegation: x.delegation,
-        add_cac: card.add_cac,
+        add_cac: terms.add_cac,
     };
-    let pool = card.pool;
-    let mut owner = pool.owner;
-    let mut channel = pool.channel;
-    let mut charged = pool.charged;
-    let mut accounting = pool.accounting;
     let n = run_all(
         channels,
-        terms,
+        asked,
         h,
-        id,
+        circuits::id_at(ids, p),
         tlvs,
-        &mut owner,
-        &mut channel,
-        &mut charged,
-        &mut accounting,
+        owner,
+        channel,
+        charged,
+        accounting,
         reply,
     );
-    card::written(with_maps(card, owner, channel, charged, accounting), n)
+    card::changed(terms, Change::Kept, n)
 }
 
 // All commands in order, on the maps of the pool; the answer is how many octets of reply are written.
@@ -120,27 +106,6 @@ fn run_all(
             }
         }
     }
-}
-
-// The card with these maps as its pool.
-fn with_maps(
-    card: Card,
-    owner: [u8; 512],
-    channel: [u8; 512],
-    charged: [bool; 512],
-    accounting: [u8; 512],
-) -> Card
-    ensures { λ r. ⌜ r ≡ withPool card (poolOf owner channel charged accounting) ⌝ }
-{
-    let mut c = card;
-    let pool = Pool {
-        owner,
-        channel,
-        charged,
-        accounting,
-    };
-    c.pool = pool;
-    c
 }
 
 // All good: Success for Result 2, nothing for Result 1.

@@ -19,8 +19,7 @@ use Rattle.pool.specs.Pool.{poolSum, extrasOf}
 use Rattle.pool.proofs.Whole.{Whole}
 use Rattle.pool.proofs.Law.{Owned}
 use Rattle.card.specs.declared.Card.{Card}
-use Rattle.card.specs.Cards.{portAt, withPort, withPool}
-use Rattle.joins.specs.Joins.{withCounter}
+use Rattle.card.specs.Cards.{portAt, withPort, withPool, withCounter}
 use Rattle.demand3.specs.Calls.{Tables}
 use Rattle.demand3.specs.Ledger.{Held, Line, Ledger, write, withFlows}
 use Rattle.demand3.specs.Claim.{charges, Once}

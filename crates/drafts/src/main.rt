@@ -61,7 +61,11 @@ fn call(card: Card, t: Tables, verb: u8, o: &[u8], reply: &mut [u8]) -> Done {
         b'l' => card::leave(card, &channels, p, flow(x, y)),
         b'd' => card::set_delegation(card, &channels, p, x),
         b'a' => joins::ask(card, &ids, p, x, y, reply),
-        _ => card::kept(card, 0),
+        _ => Done {
+            card,
+            number: 0,
+            length: 0,
+        },
     }
 }
 

@@ -7,10 +7,9 @@ use Rattle.circuits.specs.Circuits.{idAt}
 use Rattle.ports.specs.Ports.{asked, mayAsk}
 use Rattle.ports.specs.Transactions.{takenFrom}
 use Rattle.card.specs.declared.Card.{Card}
-use Rattle.card.specs.Cards.{hasPort, portAt, withPort}
+use Rattle.card.specs.Cards.{hasPort, portAt, withPort, withCounter}
 use Rattle.card.specs.Outcome.{Outcome, keeps}
 use Rattle.begun.specs.Begun.{reallocationOf}
-use Rattle.joins.specs.Joins.{withCounter}
 
 -- the request is open, with its figures and the transaction number of the message that is written
 unfoldable pub askedOf : List ℕ → Card → ℕ → ℕ → ℕ → Outcome

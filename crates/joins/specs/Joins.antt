@@ -13,26 +13,12 @@ use Rattle.lists.specs.declared.Decision.{Decision}
 use Rattle.lists.specs.declared.Decision.the-variants.{Black, Grey, White, None}
 use Rattle.lists.specs.Lists.{listDecision}
 use Rattle.circuits.specs.Circuits.{idAt}
-use Rattle.ports.specs.declared.Counter.{Counter}
 use Rattle.ports.specs.Transactions.{takenFrom}
 use Rattle.pool.specs.Pool.{isActive, committedOf, hasRoom, began}
 use Rattle.card.specs.declared.Card.{Card}
-use Rattle.card.specs.Cards.{hasPort, portAt, withPool}
+use Rattle.card.specs.Cards.{hasPort, portAt, withPool, withCounter}
 use Rattle.card.specs.Outcome.{Outcome, keeps, becomes}
 use Rattle.begun.specs.Begun.{admissionOf}
-
-abbrev pub withCounter : Card → Counter → Card
-withCounter card counter =
-    record {
-      ports = card .ports;
-      pool = card .pool;
-      counter = counter;
-      «port_count» = card .«port_count»;
-      «channel_count» = card .«channel_count»;
-      «entry_count» = card .«entry_count»;
-      «white_cac» = card .«white_cac»;
-      «add_cac» = card .«add_cac»;
-    }
 
 -- the rate of channel k fits: with what is committed it does not pass the delegation
 unfoldable pub fits : List ℕ → Card → ℕ → ℕ → Bool

@@ -1,11 +1,13 @@
 // The host's calls that may write a message: join and ask.
 use card::Card;
 use card::Done;
+use card::Effect;
+use card::Terms;
+use card::unchanged;
 use flows::Flow;
 use lists::Decision;
 use pool::Pool;
-use ports::Counter;
-use ports::Port;
+use ports::Change;
 use rows::Found;
 ghost use mathlib.Core.Path.{_≡_};
 ghost use mathlib.Core.List.{List};
@@ -13,28 +15,9 @@ ghost use Prim.Native.Nat.{ℕ, _≤_, _<_};
 ghost use lib.ListN.{length};
 ghost use Rattle.pool.specs.Pool.{poolOf, Whole};
 ghost use Rattle.card.specs.Outcome.{Ends};
+ghost use Rattle.card.specs.Parts.{ComesTo};
 ghost use Rattle.joins.specs.Joins.{fits, admitNumber, AsLent, whiteOf, greyOf, joinRow, joinOf};
-ghost use Rattle.joins.specs.Parts.{doneWith, JoinsOn};
 ghost use Rattle.joins.specs.Asks.{askedOf, askOf};
-
-// What a join asks of the card besides the pool's maps: x is the port's record.
-#[repr(C)]
-pub struct Terms {
-    pub port_count: usize,
-    pub channel_count: usize,
-    pub entry_count: usize,
-    pub white_cac: bool,
-    pub counter: Counter,
-    pub x: Port,
-}
-
-// What a join on lent maps gives: the number of 01's table, how many octets of reply are written, the counter behind it.
-#[repr(C)]
-pub struct Joined {
-    pub number: u8,
-    pub length: usize,
-    pub counter: Counter,
-}
 
 pub fn join(
     card: Card,
@@ -48,21 +31,12 @@ pub fn join(
     ensures { λ r. ⌜ Ends (joinOf (now (ids .entry)) (now (channels .entry)) (now (entries .entry)) card p f (length (now (reply .entry)))) r (now (reply .entry)) (now (reply .exit)) ⌝ }
 {
     let at = card::slot(p);
-    let x = card.ports[at];
-    let counter = card.counter;
-    let terms = Terms {
-        port_count: card.port_count,
-        channel_count: card.channel_count,
-        entry_count: card.entry_count,
-        white_cac: card.white_cac,
-        counter,
-        x,
-    };
+    let terms = card::terms_at(card, at);
     let mut owner = card.pool.owner;
     let mut channel = card.pool.channel;
     let mut charged = card.pool.charged;
     let mut accounting = card.pool.accounting;
-    let joined = join_in(
+    let r = join_in(
         &mut owner,
         &mut channel,
         &mut charged,
@@ -81,7 +55,7 @@ pub fn join(
         charged,
         accounting,
     };
-    done(card, pool, joined)
+    card::done_with(card, at, pool, r)
 }
 
 // The same on the parts of a card that it reads and writes: the maps become those of the card afterwards.
@@ -97,27 +71,26 @@ pub fn join_in(
     p: usize,
     f: Flow,
     reply: &mut [u8],
-) -> Joined
+) -> Effect
     requires { ⌜ Whole (poolOf (now owner) (now channel) (now charged) (now accounting)) ⌝ }
-    ensures { λ r. ⌜ JoinsOn (λ card. joinOf (now (ids .entry)) (now (channels .entry)) (now (entries .entry)) card p f (length (now (reply .entry)))) p terms (poolOf (now (owner .entry)) (now (channel .entry)) (now (charged .entry)) (now (accounting .entry))) (poolOf (now (owner .exit)) (now (channel .exit)) (now (charged .exit)) (now (accounting .exit))) r (now (reply .entry)) (now (reply .exit)) ⌝ }
+    ensures { λ r. ⌜ ComesTo (λ card. joinOf (now (ids .entry)) (now (channels .entry)) (now (entries .entry)) card p f (length (now (reply .entry)))) p terms (poolOf (now (owner .entry)) (now (channel .entry)) (now (charged .entry)) (now (accounting .entry))) (poolOf (now (owner .exit)) (now (channel .exit)) (now (charged .exit)) (now (accounting .exit))) r (now (reply .entry)) (now (reply .exit)) ⌝ }
 {
-    let counter = terms.counter;
     if reply.len() < 4608 {
-        return silent(counter, 13);
+        return unchanged(terms, 13);
     }
     if !card::is_port(terms.port_count, p) {
-        return silent(counter, 7);
+        return unchanged(terms, 7);
     }
     let x = terms.x;
     if !x.up {
-        return silent(counter, 6);
+        return unchanged(terms, 6);
     }
     if !flows::good_flow(f) {
-        return silent(counter, 8);
+        return unchanged(terms, 8);
     }
     let found = channels::channel_of(channels, terms.channel_count, f);
     match found {
-        Found::Nothing => silent(counter, 9),
+        Found::Nothing => unchanged(terms, 9),
         Found::At(k) => join_channel(
             owner,
             channel,
@@ -135,32 +108,6 @@ pub fn join_in(
     }
 }
 
-// The card with these maps, and what a join on them gave.
-fn done(card: Card, pool: Pool, joined: Joined) -> Done
-    ensures { λ r. ⌜ r ≡ doneWith card pool joined ⌝ }
-{
-    let mut c = card;
-    c.pool = pool;
-    let counter = joined.counter;
-    c.counter = counter;
-    Done {
-        card: c,
-        number: joined.number,
-        length: joined.length,
-    }
-}
-
-// Nothing is written, and no transaction number is used.
-fn silent(counter: Counter, number: u8) -> Joined
-    ensures { λ r. ⌜ r ≡ record { number = number; length = 0; counter = counter } ⌝ }
-{
-    Joined {
-        number,
-        length: 0,
-        counter,
-    }
-}
-
 fn join_channel(
     owner: &mut [u8; 512],
     channel: &mut [u8; 512],
@@ -174,20 +121,20 @@ fn join_channel(
     f: Flow,
     k: u8,
     reply: &mut [u8],
-) -> Joined
+) -> Effect
     requires whole { ⌜ Whole (poolOf (now owner) (now channel) (now charged) (now accounting)) ⌝ }
     requires past { ⌜ (4608 ≤ length (now reply)) × (p < 64) ⌝ }
-    ensures { λ r. ⌜ JoinsOn (λ card. joinRow (now (ids .entry)) (now (channels .entry)) (now (entries .entry)) card p f (Found.At k)) p terms (poolOf (now (owner .entry)) (now (channel .entry)) (now (charged .entry)) (now (accounting .entry))) (poolOf (now (owner .exit)) (now (channel .exit)) (now (charged .exit)) (now (accounting .exit))) r (now (reply .entry)) (now (reply .exit)) ⌝ }
+    ensures { λ r. ⌜ ComesTo (λ card. joinRow (now (ids .entry)) (now (channels .entry)) (now (entries .entry)) card p f (Found.At k)) p terms (poolOf (now (owner .entry)) (now (channel .entry)) (now (charged .entry)) (now (accounting .entry))) (poolOf (now (owner .exit)) (now (channel .exit)) (now (charged .exit)) (now (accounting .exit))) r (now (reply .entry)) (now (reply .exit)) ⌝ }
 {
     if pool::is_active(owner, channel, p, k) {
-        return silent(terms.counter, 1);
+        return unchanged(terms, 1);
     }
     let decision = lists::list_decision(entries, terms.entry_count, f);
     match decision {
         Decision::White => join_white(owner, channel, charged, accounting, channels, terms, p, k),
         Decision::Grey => join_grey(ids, terms, p, f, reply),
-        Decision::Black => silent(terms.counter, 3),
-        Decision::None => silent(terms.counter, 3),
+        Decision::Black => unchanged(terms, 3),
+        Decision::None => unchanged(terms, 3),
     }
 }
 
@@ -201,19 +148,19 @@ fn join_white(
     terms: Terms,
     p: u8,
     k: u8,
-) -> Joined
+) -> Effect
     requires whole { ⌜ Whole (poolOf (now owner) (now channel) (now charged) (now accounting)) ⌝ }
     requires past { ⌜ p < 64 ⌝ }
-    ensures { λ r. ⌜ ((text : List ℕ) → JoinsOn (λ card. whiteOf (now (channels .entry)) card p k) p terms (poolOf (now (owner .entry)) (now (channel .entry)) (now (charged .entry)) (now (accounting .entry))) (poolOf (now (owner .exit)) (now (channel .exit)) (now (charged .exit)) (now (accounting .exit))) r text text) ⌝ }
+    ensures { λ r. ⌜ ((text : List ℕ) → ComesTo (λ card. whiteOf (now (channels .entry)) card p k) p terms (poolOf (now (owner .entry)) (now (channel .entry)) (now (charged .entry)) (now (accounting .entry))) (poolOf (now (owner .exit)) (now (channel .exit)) (now (charged .exit)) (now (accounting .exit))) r text text) ⌝ }
 {
     let x = terms.x;
     let cac = terms.white_cac;
     let number = admit_number(channels, owner, channel, charged, x.delegation, cac, p, k);
     if number != 0 {
-        return silent(terms.counter, number);
+        return unchanged(terms, number);
     }
     pool::begin_in(owner, channel, charged, accounting, p, k, cac, 0);
-    silent(terms.counter, 0)
+    unchanged(terms, 0)
 }
 
 // Room, and then, under admission control, the rate: 5, 4, or 0.
@@ -261,18 +208,19 @@ fn rate_fits<'a>(
 }
 
 // Whatever the maps hold: none of them is looked at.
-fn join_grey(ids: &[u8; 4096], terms: Terms, p: u8, f: Flow, reply: &mut [u8]) -> Joined
+fn join_grey(ids: &[u8; 4096], terms: Terms, p: u8, f: Flow, reply: &mut [u8]) -> Effect
     requires { ⌜ (4608 ≤ length (now reply)) × (p < 64) ⌝ }
-    ensures { λ r. ⌜ ((pool : Pool) → JoinsOn (λ card. greyOf (now (ids .entry)) card p f) p terms pool pool r (now (reply .entry)) (now (reply .exit))) ⌝ }
+    ensures { λ r. ⌜ ((pool : Pool) → ComesTo (λ card. greyOf (now (ids .entry)) card p f) p terms pool pool r (now (reply .entry)) (now (reply .exit))) ⌝ }
 {
     let counter = terms.counter;
     let taken = counter.take();
     let next = taken.next;
     let n = begun::put_admission(reply, taken.number, circuits::id_at(ids, p), f);
-    Joined {
+    Effect {
         number: 2,
         length: n,
         counter: next,
+        change: Change::Kept,
     }
 }
 
@@ -286,50 +234,65 @@ pub fn ask(
 ) -> Done
     ensures { λ r. ⌜ Ends (askOf (now (ids .entry)) card p required preferred (length (now (reply .entry)))) r (now (reply .entry)) (now (reply .exit)) ⌝ }
 {
-    if reply.len() < 4608 {
-        return card::kept(card, 13);
-    }
-    if !card::is_port(card.port_count, p) {
-        return card::kept(card, 7);
-    }
-    let x = card.ports[p];
-    if !x.up {
-        return card::kept(card, 6);
-    }
-    if !x.may_ask(required, preferred) {
-        return card::kept(card, 12);
-    }
-    open_request(card, ids, p, required, preferred, reply)
+    let at = card::slot(p);
+    let terms = card::terms_at(card, at);
+    let r = ask_in(ids, terms, p, required, preferred, reply);
+    let pool = card.pool;
+    card::done_with(card, at, pool, r)
 }
 
-fn open_request(
-    card: Card,
+// Whatever the maps hold: none of them is looked at.
+pub fn ask_in(
     ids: &[u8; 4096],
+    terms: Terms,
     p: usize,
     required: u32,
     preferred: u32,
     reply: &mut [u8],
-) -> Done
-    requires { ⌜ (4608 ≤ length (now reply)) × (p < 64) ⌝ }
-    ensures { λ r. ⌜ Ends (askedOf (now (ids .entry)) card p required preferred) r (now (reply .entry)) (now (reply .exit)) ⌝ }
+) -> Effect
+    ensures { λ r. ⌜ ((pool : Pool) → ComesTo (λ card. askOf (now (ids .entry)) card p required preferred (length (now (reply .entry)))) p terms pool pool r (now (reply .entry)) (now (reply .exit))) ⌝ }
 {
-    let mut c = card;
-    let counter = c.counter;
+    if reply.len() < 4608 {
+        return unchanged(terms, 13);
+    }
+    if !card::is_port(terms.port_count, p) {
+        return unchanged(terms, 7);
+    }
+    let x = terms.x;
+    if !x.up {
+        return unchanged(terms, 6);
+    }
+    if !x.may_ask(required, preferred) {
+        return unchanged(terms, 12);
+    }
+    open_request(ids, terms, p as u8, required, preferred, reply)
+}
+
+fn open_request(
+    ids: &[u8; 4096],
+    terms: Terms,
+    p: u8,
+    required: u32,
+    preferred: u32,
+    reply: &mut [u8],
+) -> Effect
+    requires { ⌜ (4608 ≤ length (now reply)) × (p < 64) ⌝ }
+    ensures { λ r. ⌜ ((pool : Pool) → ComesTo (λ card. askedOf (now (ids .entry)) card p required preferred) p terms pool pool r (now (reply .entry)) (now (reply .exit))) ⌝ }
+{
+    let counter = terms.counter;
     let taken = counter.take();
     let next = taken.next;
-    let x = c.ports[p];
-    c.ports[p] = x.ask(required, preferred, taken.number);
-    c.counter = next;
     let n = begun::put_reallocation(
         reply,
         taken.number,
-        circuits::id_at(ids, p as u8),
+        circuits::id_at(ids, p),
         required,
         preferred,
     );
-    Done {
-        card: c,
+    Effect {
         number: 0,
         length: n,
+        counter: next,
+        change: Change::Asked(required, preferred, taken.number),
     }
 }

@@ -1,16 +1,16 @@
 // A port's active flows in order of family, group, source (none first).
 use card::Card;
 use flows::Flow;
-use pool::Pool;
 use pool::Rows;
 use rows::Found;
 ghost use mathlib.Core.Path.{_≡_};
-ghost use mathlib.Core.List.{[]};
-ghost use Prim.Native.Nat.{_+_, _≤_, _<_};
+ghost use mathlib.Core.Bool.{Bool};
+ghost use mathlib.Core.List.{List, []};
+ghost use Prim.Native.Nat.{ℕ, _+_, _<_};
 ghost use lib.ListN.{take};
 ghost use Rattle.octets.specs.Writing.{over};
-ghost use Rattle.pool.specs.Pool.{listed, rowsOf};
-ghost use Rattle.listing.specs.Listing.{rowBefore, placed, inOrder, Listed, rowsInOrder, flowsAt, activeAt};
+ghost use Rattle.pool.specs.Pool.{listed, rowsIn, poolOf};
+ghost use Rattle.listing.specs.Listing.{rowBefore, placed, Listed, rowsInOrder, flowsAt, activeAt};
 
 // ---- what a host may read
 
@@ -22,7 +22,7 @@ pub fn flows_of(card: Card, channels: &[u32; 2816], p: usize) -> Rows
         return no_rows();
     }
     let pool = card.pool;
-    rows_in_order(channels, pool, p as u8)
+    rows_in_order(channels, &pool.owner, &pool.channel, p as u8)
 }
 
 // The flow is active on the port.
@@ -44,11 +44,17 @@ pub fn is_active(card: Card, channels: &[u32; 2816], p: usize, f: Flow) -> bool
 
 // ---- order
 
-pub fn rows_in_order(channels: &[u32; 2816], pool: Pool, p: u8) -> Rows
-    ensures rows { λ r. ⌜ r ≡ listed (rowsInOrder (now (channels .entry)) pool p) ⌝ }
-    ensures order { λ _. ⌜ Listed (now (channels .entry)) (take 16 (rowsOf pool p)) ⌝ }
+// Whatever the other maps hold.
+pub fn rows_in_order<'a>(
+    channels: &[u32; 2816],
+    owner: &'a [u8; 512],
+    channel: &'a [u8; 512],
+    p: u8,
+) -> Rows
+    ensures rows { λ r. ⌜ ((charged : List Bool) (accounting : List ℕ) → r ≡ listed (rowsInOrder (now (channels .entry)) (poolOf (now (owner .entry)) (now (channel .entry)) charged accounting) p)) ⌝ }
+    ensures order { λ _. ⌜ Listed (now (channels .entry)) (take 16 (rowsIn (now (owner .entry)) (now (channel .entry)) p)) ⌝ }
 {
-    let found = pool::rows_of(&pool.owner, &pool.channel, p);
+    let found = pool::rows_of(owner, channel, p);
     let n = found.count;
     let rows = found.rows;
     let mut done = no_rows();

@@ -1,14 +1,15 @@
 -- The cases of a message, each from the tests that lead to it.
 --     size-least, rest-short     how long a message that is handed in is, and what follows its header
 --     no-room, ..                13, and 15 for size and header
---     verdict-offered, ..        a transfer, by what the table gives
+--     passed-at                  the port that a message is about
+--     verdict-offered            a transfer, by what the table gives
 --     answer-taken, ..           by type and Result
 --     verdict-requested, of-144, ..   a request, by what the table gives and by type
 -- Assumes nothing.
-use mathlib.Core.Path.{_≡_, refl, sym, ap, _∙_}
+use mathlib.Core.Path.{_≡_, sym, ap, subst, _∙_}
 use mathlib.Core.Bool.{true, false}
 use mathlib.Core.List.{List, [], _∷_}
-use Prim.Native.Nat.{ℕ, _≤_}
+use Prim.Native.Nat.{ℕ, _≤_, _<_}
 use native.Mathlib.Omega.{arith}
 use lib.ListN.{length, drop, length-drop}
 use lib.Dec.{eqb, ltb, leb}
@@ -20,14 +21,18 @@ use Rattle.header.specs.Header.{sizeOk, headIn}
 use Rattle.items.specs.Items.{itemsOf, firstOf}
 use Rattle.fields.specs.declared.Request.{Request}
 use Rattle.fields.specs.Fields.{allocationIn, requestIn}
+use Rattle.pool.specs.declared.Pool.{Pool}
 use Rattle.card.specs.declared.Card.{Card}
+use Rattle.card.specs.declared.Terms.{Terms}
+use Rattle.card.specs.Cards.{withPool}
 use Rattle.card.specs.Outcome.{Outcome, keeps}
+use Rattle.card.specs.Parts.{HasTerms}
 use Rattle.checks.specs.declared.Verdict.{Verdict}
-use Rattle.checks.specs.declared.Verdict.the-variants.{Refused, Passed}
-use Rattle.checks.specs.Table.{tableOf}
+use Rattle.checks.specs.declared.Verdict.the-variants.{Passed}
+use Rattle.checks.specs.Table.{portNamed, tableOf}
+use Rattle.checks.proofs.Rows.{passed-tells, passed-named, located-by}
 use Rattle.control.specs.Control.{controlled}
 use Rattle.transfers.specs.Transfers.{reallocated}
-use Rattle.transfers.proofs.Cases.{transfer-silent}
 use Rattle.queries.specs.Queries.{delegationQuery, flowQuery}
 use Rattle.messages.specs.Messages.{isAnswer, isNotice, byType, requested, offered, byResult, byHead, receivedOf}
 
@@ -65,15 +70,17 @@ module _ (ids channels : List ℕ) (card : Card) (m : List ℕ) (room : ℕ) whe
       unfolding receivedOf byHead
       usable-is e = rw (full, size, e)
 
--- ---- a transfer, which has no reply; v is what the table gives, s what follows the header
-module _ (card : Card) (h : Header) (s : List ℕ) where
-  pub verdict-offered : {t x v : Verdict} → x ≡ t → x ≡ v → offered card h s v ≡ offered card h s t
-  verdict-offered e g = ap (offered card h s) (sym g ∙ e)
+-- ---- the table, on a card with these terms; p is the port that the Target names
+module _ (ids s : List ℕ) {card : Card} {p : ℕ} {terms : Terms} (pool : Pool) (g : HasTerms card p terms) (e : p ≡ portNamed ids (terms .«port_count») s) where
+  -- a message that passes is about the port at the terms' place
+  pub passed-at : (h : Header) {q : ℕ} → tableOf ids (withPool card pool) h s ≡ Passed q → q ≡ terms .at
+  passed-at h {q} t =
+      let named : p ≡ q = located-by pool g e .port ∙ passed-named ids (withPool card pool) h s t in
+      sym (g .place (subst (λ (n : ℕ). n < 64) (sym named) (passed-tells ids (withPool card pool) h s t .small)) ∙ named)
 
-  pub offered-silent : (v : Verdict) → offered card h s v .reply ≡ []
-  unfolding offered
-  offered-silent (Refused code) = refl
-  offered-silent (Passed p) = transfer-silent card h p (allocationIn (firstOf 0x0015 (itemsOf s)))
+-- ---- a transfer; v is what the table gives, s what follows the header
+pub verdict-offered : (card : Card) (h : Header) (s : List ℕ) {t x v : Verdict} → x ≡ t → x ≡ v → offered card h s v ≡ offered card h s t
+verdict-offered card h s e g = ap (offered card h s) (sym g ∙ e)
 
 -- ---- type and Result
 module _ (ids channels : List ℕ) (card : Card) (h : Header) (s : List ℕ) where

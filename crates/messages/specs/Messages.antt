@@ -14,7 +14,7 @@ use Rattle.card.specs.declared.Card.{Card}
 use Rattle.card.specs.Outcome.{Outcome, keeps, writes}
 use Rattle.checks.specs.declared.Verdict.{Verdict}
 use Rattle.checks.specs.declared.Verdict.the-variants.{Refused, Passed}
-use Rattle.checks.specs.Table.{tableOf, refusedOf}
+use Rattle.checks.specs.Table.{portNamed, tableOf, refusedOf}
 use Rattle.control.specs.Control.{controlled}
 use Rattle.transfers.specs.Transfers.{reallocated, transferred}
 use Rattle.queries.specs.Queries.{delegationQuery, flowQuery}
@@ -67,3 +67,7 @@ unfoldable pub receivedOf : List ℕ → List ℕ → Card → List ℕ → ℕ 
 receivedOf ids channels card m room =
     cond (ltb room 4608) (keeps card 13)
     (cond (sizeOk m) (byHead ids channels card m (headIn m)) (keeps card 15))
+
+-- the port that the message's Target names, or 64 where it is no port's: the one port whose record and flows the message can change
+unfoldable pub namedIn : List ℕ → ℕ → List ℕ → ℕ
+namedIn ids count m = portNamed ids count (drop 16 m)

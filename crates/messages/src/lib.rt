@@ -1,17 +1,25 @@
 // A message from the access server, check by check, and its answer.
 use card::Card;
 use card::Done;
+use card::Effect;
+use card::Terms;
+use card::unchanged;
 use checks::Verdict;
 use fields::ALLOCATION;
 use fields::REQUEST;
 use header::Head;
 use header::Header;
+use pool::Pool;
+use ports::Change;
 ghost use mathlib.Core.Path.{_≡_};
-ghost use Prim.Native.Nat.{_≤_, _<_};
+ghost use mathlib.Core.List.{List};
+ghost use Prim.Native.Nat.{ℕ, _≤_, _<_};
 ghost use lib.ListN.{length};
-ghost use Rattle.checks.specs.Table.{tableOf};
-ghost use Rattle.card.specs.Outcome.{doneOf, Ends};
-ghost use Rattle.messages.specs.Messages.{isAnswer, isNotice, byType, requested, refusedNumber, offered, byResult, receivedOf};
+ghost use Rattle.pool.specs.Pool.{poolOf, Whole};
+ghost use Rattle.card.specs.Outcome.{Ends};
+ghost use Rattle.card.specs.Parts.{ComesTo};
+ghost use Rattle.checks.specs.Table.{portNamed, tableOf};
+ghost use Rattle.messages.specs.Messages.{isAnswer, isNotice, byType, requested, refusedNumber, offered, byResult, receivedOf, namedIn};
 
 pub fn message(
     card: Card,
@@ -22,44 +30,130 @@ pub fn message(
 ) -> Done
     ensures { λ r. ⌜ Ends (receivedOf (now (ids .entry)) (now (channels .entry)) card (now (octets .entry)) (length (now (reply .entry)))) r (now (reply .entry)) (now (reply .exit)) ⌝ }
 {
+    let p = port_named(ids, card.port_count, octets);
+    let at = card::slot(p);
+    let terms = card::terms_at(card, at);
+    let mut owner = card.pool.owner;
+    let mut channel = card.pool.channel;
+    let mut charged = card.pool.charged;
+    let mut accounting = card.pool.accounting;
+    let r = message_in(
+        &mut owner,
+        &mut channel,
+        &mut charged,
+        &mut accounting,
+        ids,
+        channels,
+        terms,
+        p,
+        octets,
+        reply,
+    );
+    let pool = Pool {
+        owner,
+        channel,
+        charged,
+        accounting,
+    };
+    card::done_with(card, at, pool, r)
+}
+
+// The port that the message's Target names, or 64 where it is no port's.
+pub fn port_named(ids: &[u8; 4096], port_count: usize, octets: &[u8]) -> usize
+    ensures { λ r. ⌜ r ≡ namedIn (now (ids .entry)) «port_count» (now (octets .entry)) ⌝ }
+{
+    let n = octets.len();
+    if n < 16 {
+        return checks::port_named(ids, port_count, &octets[n..]);
+    }
+    checks::port_named(ids, port_count, &octets[16..])
+}
+
+// The same on the parts of a card that it reads and writes, where p is what `port_named` gives.
+pub fn message_in(
+    owner: &mut [u8; 512],
+    channel: &mut [u8; 512],
+    charged: &mut [bool; 512],
+    accounting: &mut [u8; 512],
+    ids: &[u8; 4096],
+    channels: &[u32; 2816],
+    terms: Terms,
+    p: usize,
+    octets: &[u8],
+    reply: &mut [u8],
+) -> Effect
+    requires { ⌜ Whole (poolOf (now owner) (now channel) (now charged) (now accounting)) × (terms .at < 64) × (p ≡ namedIn (now ids) (terms .«port_count») (now octets)) ⌝ }
+    ensures { λ r. ⌜ ComesTo (λ card. receivedOf (now (ids .entry)) (now (channels .entry)) card (now (octets .entry)) (length (now (reply .entry)))) p terms (poolOf (now (owner .entry)) (now (channel .entry)) (now (charged .entry)) (now (accounting .entry))) (poolOf (now (owner .exit)) (now (channel .exit)) (now (charged .exit)) (now (accounting .exit))) r (now (reply .entry)) (now (reply .exit)) ⌝ }
+{
     if reply.len() < 4608 {
-        return card::kept(card, 13);
+        return unchanged(terms, 13);
     }
     if !header::size_ok(octets) {
-        return card::kept(card, 15);
+        return unchanged(terms, 15);
     }
     let head = header::read_header(octets);
     match head {
-        Head::Unusable => card::kept(card, 15),
-        Head::Usable(h) => by_result(card, ids, channels, h, &octets[16..], reply),
+        Head::Unusable => unchanged(terms, 15),
+        Head::Usable(h) => by_result(
+            owner,
+            channel,
+            charged,
+            accounting,
+            ids,
+            channels,
+            terms,
+            p,
+            h,
+            &octets[16..],
+            reply,
+        ),
     }
 }
 
 fn by_result(
-    card: Card,
+    owner: &mut [u8; 512],
+    channel: &mut [u8; 512],
+    charged: &mut [bool; 512],
+    accounting: &mut [u8; 512],
     ids: &[u8; 4096],
     channels: &[u32; 2816],
+    terms: Terms,
+    p: usize,
     h: Header,
     tlvs: &[u8],
     reply: &mut [u8],
-) -> Done
-    requires { ⌜ (4608 ≤ length (now reply)) × (length (now tlvs) ≤ 4096) ⌝ }
-    ensures { λ r. ⌜ Ends (byResult (now (ids .entry)) (now (channels .entry)) card h (now (tlvs .entry))) r (now (reply .entry)) (now (reply .exit)) ⌝ }
+) -> Effect
+    requires whole { ⌜ Whole (poolOf (now owner) (now channel) (now charged) (now accounting)) ⌝ }
+    requires room { ⌜ (4608 ≤ length (now reply)) × (length (now tlvs) ≤ 4096) ⌝ }
+    requires named { ⌜ (terms .at < 64) × (p ≡ portNamed (now ids) (terms .«port_count») (now tlvs)) ⌝ }
+    ensures { λ r. ⌜ ComesTo (λ card. byResult (now (ids .entry)) (now (channels .entry)) card h (now (tlvs .entry))) p terms (poolOf (now (owner .entry)) (now (channel .entry)) (now (charged .entry)) (now (accounting .entry))) (poolOf (now (owner .exit)) (now (channel .exit)) (now (charged .exit)) (now (accounting .exit))) r (now (reply .entry)) (now (reply .exit)) ⌝ }
 {
     let answer = is_answer(h.result);
     if h.kind == 147 {
         if answer {
-            return offered(card, ids, h, tlvs);
+            return offered(terms, p, h, tlvs);
         }
-        return card::kept(card, 15);
+        return unchanged(terms, 15);
     }
     if answer {
-        return card::kept(card, 15);
+        return unchanged(terms, 15);
     }
     if is_notice(h) {
-        return card::kept(card, 0);
+        return unchanged(terms, 0);
     }
-    requested(card, ids, channels, h, tlvs, reply)
+    requested(
+        owner,
+        channel,
+        charged,
+        accounting,
+        ids,
+        channels,
+        terms,
+        p,
+        h,
+        tlvs,
+        reply,
+    )
 }
 
 fn is_answer(result: u8) -> bool
@@ -74,16 +168,17 @@ fn is_notice(h: Header) -> bool
     h.kind == 144 && h.result == 0
 }
 
-// An answer to a request of the card's own.
-fn offered(card: Card, ids: &[u8; 4096], h: Header, tlvs: &[u8]) -> Done
-    ensures { λ r. ⌜ r ≡ doneOf (offered card h (now (tlvs .entry)) (tableOf (now (ids .entry)) card h (now (tlvs .entry)))) ⌝ }
+// An answer to a request of the card's own. Whatever the maps and the buffer hold.
+fn offered(terms: Terms, p: usize, h: Header, tlvs: &[u8]) -> Effect
+    ensures { λ r. ⌜ ((ids : List ℕ) (pool : Pool) (text : List ℕ) → p ≡ portNamed ids (terms .«port_count») (now (tlvs .entry)) → ComesTo (λ card. offered card h (now (tlvs .entry)) (tableOf ids card h (now (tlvs .entry)))) p terms pool pool r text text) ⌝ }
 {
-    let verdict = checks::check_table(ids, card, h, tlvs);
+    let x = terms.x;
+    let verdict = checks::check_table(p, x.up, h, tlvs);
     match verdict {
-        Verdict::Refused(code) => card::kept(card, refused_number(code)),
-        Verdict::Passed(p) => {
+        Verdict::Refused(code) => unchanged(terms, refused_number(code)),
+        Verdict::Passed(_) => {
             let amount = fields::allocation_in(items::first_of(tlvs, ALLOCATION));
-            transfers::transfer(card, h, p, amount)
+            transfers::transfer(terms, h, amount)
         }
     }
 }
@@ -102,47 +197,82 @@ fn refused_number(code: u16) -> u8
 }
 
 fn requested(
-    card: Card,
+    owner: &mut [u8; 512],
+    channel: &mut [u8; 512],
+    charged: &mut [bool; 512],
+    accounting: &mut [u8; 512],
     ids: &[u8; 4096],
     channels: &[u32; 2816],
+    terms: Terms,
+    p: usize,
     h: Header,
     tlvs: &[u8],
     reply: &mut [u8],
-) -> Done
-    requires { ⌜ (4608 ≤ length (now reply)) × (length (now tlvs) ≤ 4096) ⌝ }
-    ensures { λ r. ⌜ Ends (requested (now (ids .entry)) (now (channels .entry)) card h (now (tlvs .entry)) (tableOf (now (ids .entry)) card h (now (tlvs .entry)))) r (now (reply .entry)) (now (reply .exit)) ⌝ }
+) -> Effect
+    requires whole { ⌜ Whole (poolOf (now owner) (now channel) (now charged) (now accounting)) ⌝ }
+    requires room { ⌜ (4608 ≤ length (now reply)) × (length (now tlvs) ≤ 4096) ⌝ }
+    requires named { ⌜ (terms .at < 64) × (p ≡ portNamed (now ids) (terms .«port_count») (now tlvs)) ⌝ }
+    ensures { λ r. ⌜ ComesTo (λ card. requested (now (ids .entry)) (now (channels .entry)) card h (now (tlvs .entry)) (tableOf (now (ids .entry)) card h (now (tlvs .entry)))) p terms (poolOf (now (owner .entry)) (now (channel .entry)) (now (charged .entry)) (now (accounting .entry))) (poolOf (now (owner .exit)) (now (channel .exit)) (now (charged .exit)) (now (accounting .exit))) r (now (reply .entry)) (now (reply .exit)) ⌝ }
 {
-    let verdict = checks::check_table(ids, card, h, tlvs);
+    let x = terms.x;
+    let verdict = checks::check_table(p, x.up, h, tlvs);
     match verdict {
         Verdict::Refused(code) => {
             let n = checks::put_refused(reply, h, tlvs, code);
-            card::written(card, n)
+            card::changed(terms, Change::Kept, n)
         }
-        Verdict::Passed(p) => by_type(card, ids, channels, h, p, tlvs, reply),
+        Verdict::Passed(_) => by_type(
+            owner,
+            channel,
+            charged,
+            accounting,
+            ids,
+            channels,
+            terms,
+            h,
+            tlvs,
+            reply,
+        ),
     }
 }
 
+// Past the table, on the port at the terms' place.
 fn by_type(
-    card: Card,
+    owner: &mut [u8; 512],
+    channel: &mut [u8; 512],
+    charged: &mut [bool; 512],
+    accounting: &mut [u8; 512],
     ids: &[u8; 4096],
     channels: &[u32; 2816],
+    terms: Terms,
     h: Header,
-    p: u8,
     tlvs: &[u8],
     reply: &mut [u8],
-) -> Done
-    requires { ⌜ (4608 ≤ length (now reply)) × (length (now tlvs) ≤ 4096) × (p < 64) ⌝ }
-    ensures { λ r. ⌜ Ends (byType (now (ids .entry)) (now (channels .entry)) card h (now (tlvs .entry)) p) r (now (reply .entry)) (now (reply .exit)) ⌝ }
+) -> Effect
+    requires whole { ⌜ Whole (poolOf (now owner) (now channel) (now charged) (now accounting)) ⌝ }
+    requires room { ⌜ (4608 ≤ length (now reply)) × (length (now tlvs) ≤ 4096) × (terms .at < 64) ⌝ }
+    ensures { λ r. ⌜ ComesTo (λ card. byType (now (ids .entry)) (now (channels .entry)) card h (now (tlvs .entry)) (terms .at)) (terms .at) terms (poolOf (now (owner .entry)) (now (channel .entry)) (now (charged .entry)) (now (accounting .entry))) (poolOf (now (owner .exit)) (now (channel .exit)) (now (charged .exit)) (now (accounting .exit))) r (now (reply .entry)) (now (reply .exit)) ⌝ }
 {
     if h.kind == 144 {
-        return control::control(card, ids, channels, h, p, tlvs, reply);
+        return control::control(
+            owner,
+            channel,
+            charged,
+            accounting,
+            ids,
+            channels,
+            terms,
+            h,
+            tlvs,
+            reply,
+        );
     }
     if h.kind == 146 {
         let r = fields::request_in(items::first_of(tlvs, REQUEST));
-        return transfers::reallocate(card, ids, channels, h, p, r, reply);
+        return transfers::reallocate(owner, channel, charged, ids, channels, terms, h, r, reply);
     }
     if h.kind == 148 {
-        return queries::query_delegation(card, ids, h, p, reply);
+        return queries::query_delegation(ids, terms, h, reply);
     }
-    queries::query_flows(card, ids, channels, h, p, reply)
+    queries::query_flows(owner, channel, ids, channels, terms, h, reply)
 }

@@ -7,7 +7,7 @@ ghost use lib.Dec.{eqb};
 ghost use Rattle.rows.specs.Rows.{noneOf};
 ghost use Rattle.sums.specs.Sums.{mapTo};
 ghost use Rattle.channels.specs.Channels.{isRow};
-ghost use Rattle.pool.specs.Pool.{isOf, Next, countIn, committedIn, activeIn, activeWhere, extrasIn, freeIn, roomIn, freshPool, began, endedAll, rowsIn, listed, poolOf, Whole, endedIn, endedAllIn, accountedIn};
+ghost use Rattle.pool.specs.Pool.{isOf, Next, countIn, committedIn, activeIn, activeWhere, extrasIn, freeIn, roomIn, freshPool, began, rowsIn, listed, poolOf, Whole, endedIn, endedAllIn, accountedIn};
 use channels::channel_at;
 use channels::rate_at;
 use flows::Flow;
@@ -42,16 +42,6 @@ impl Pool {
             charged: [false; 512],
             accounting: [0u8; 512],
         }
-    }
-
-    // Port down.
-    pub fn end_all(mut self, p: u8) -> Pool
-        ensures { λ r. ⌜ r ≡ endedAll self p ⌝ }
-    {
-        let mut owner = self.owner;
-        end_all_in(&mut owner, p);
-        self.owner = owner;
-        self
     }
 }
 

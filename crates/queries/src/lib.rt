@@ -1,49 +1,55 @@
-// The answers to a Delegated Bandwidth Query (148) and a Multicast Flow Query (149) about port p, which passed the table.
-use card::Card;
-use card::Done;
+// The answers to a Delegated Bandwidth Query (148) and a Multicast Flow Query (149) about the port of the terms, which passed the table.
+use card::Effect;
+use card::Terms;
 use header::Header;
+use pool::Pool;
 use pool::Rows;
-ghost use mathlib.Core.Path.{_≡_};
-ghost use mathlib.Core.List.{_++_};
-ghost use Prim.Native.Nat.{_≤_, _<_};
+use ports::Change;
+ghost use mathlib.Core.Bool.{Bool};
+ghost use mathlib.Core.List.{List, _++_};
+ghost use Prim.Native.Nat.{ℕ, _≤_, _<_};
 ghost use lib.ListN.{length, take};
 ghost use Rattle.octets.specs.Writing.{Wrote};
 ghost use Rattle.writers.specs.Tlvs.{targetOf};
-ghost use Rattle.card.specs.Outcome.{Ends};
+ghost use Rattle.pool.specs.Pool.{poolOf};
+ghost use Rattle.card.specs.Parts.{ComesTo};
 ghost use Rattle.queries.specs.Queries.{delegationQuery, flowTlvs, flowsReply, flowQuery};
 
-pub fn query_delegation(card: Card, ids: &[u8; 4096], h: Header, p: u8, reply: &mut [u8]) -> Done
-    requires { ⌜ (4608 ≤ length (now reply)) × (p < 64) ⌝ }
-    ensures { λ r. ⌜ Ends (delegationQuery (now (ids .entry)) card h p) r (now (reply .entry)) (now (reply .exit)) ⌝ }
+// Whatever the maps hold.
+pub fn query_delegation(ids: &[u8; 4096], terms: Terms, h: Header, reply: &mut [u8]) -> Effect
+    requires { ⌜ (4608 ≤ length (now reply)) × (terms .at < 64) ⌝ }
+    ensures { λ r. ⌜ ((pool : Pool) → ComesTo (λ card. delegationQuery (now (ids .entry)) card h (terms .at)) (terms .at) terms pool pool r (now (reply .entry)) (now (reply .exit))) ⌝ }
 {
-    let x = card.ports[p as usize];
+    let x = terms.x;
     let n = replies::put_amount(
         reply,
         h,
         h.kind,
         3,
         0,
-        circuits::id_at(ids, p),
+        circuits::id_at(ids, terms.at as u8),
         x.delegation,
     );
-    card::written(card, n)
+    card::changed(terms, Change::Kept, n)
 }
 
-pub fn query_flows(
-    card: Card,
+// Whatever the other maps hold.
+pub fn query_flows<'a>(
+    owner: &'a [u8; 512],
+    channel: &'a [u8; 512],
     ids: &[u8; 4096],
     channels: &[u32; 2816],
+    terms: Terms,
     h: Header,
-    p: u8,
     reply: &mut [u8],
-) -> Done
-    requires { ⌜ (4608 ≤ length (now reply)) × (p < 64) ⌝ }
-    ensures { λ r. ⌜ Ends (flowQuery (now (ids .entry)) (now (channels .entry)) card h p) r (now (reply .entry)) (now (reply .exit)) ⌝ }
+) -> Effect
+    requires { ⌜ (4608 ≤ length (now reply)) × (terms .at < 64) ⌝ }
+    ensures { λ r. ⌜ ((charged : List Bool) (accounting : List ℕ) → ComesTo (λ card. flowQuery (now (ids .entry)) (now (channels .entry)) card h (terms .at)) (terms .at) terms (poolOf (now (owner .entry)) (now (channel .entry)) charged accounting) (poolOf (now (owner .entry)) (now (channel .entry)) charged accounting) r (now (reply .entry)) (now (reply .exit))) ⌝ }
 {
-    let pool = card.pool;
-    let rows = listing::rows_in_order(channels, pool, p);
+    let p = terms.at as u8;
+    let rows = listing::rows_in_order(channels, owner, channel, p);
     let n = put_listing(reply, h, circuits::id_at(ids, p), channels, rows);
-    card::written(card, n)
+    card::changed(terms, Change::Kept, n)
 }
 
 fn put_listing(reply: &mut [u8], h: Header, id: &[u8], channels: &[u32; 2816], rows: Rows) -> usize

@@ -1,41 +1,45 @@
-// A Bandwidth Reallocation Request (146) and a Bandwidth Transfer (147) about port p, which passed the table.
-use card::Card;
-use card::Done;
+// A Bandwidth Reallocation Request (146) and a Bandwidth Transfer (147) about the port of the terms, which passed the table.
+use card::Effect;
+use card::Terms;
 use fields::Request;
 use header::Header;
+use pool::Pool;
+use ports::Change;
 ghost use mathlib.Core.Path.{_≡_};
-ghost use Prim.Native.Nat.{_≤_, _<_, min, max};
+ghost use mathlib.Core.List.{List};
+ghost use Prim.Native.Nat.{ℕ, _≤_, _<_, min, max};
 ghost use lib.ListN.{length};
-ghost use Rattle.pool.specs.Pool.{committedOf};
-ghost use Rattle.card.specs.Outcome.{doneOf, Ends};
-ghost use Rattle.transfers.specs.Transfers.{reducedTo, transferFails, transferGives, reallocated, transferred};
+ghost use Rattle.pool.specs.Pool.{poolOf};
+ghost use Rattle.card.specs.Parts.{ComesTo};
+ghost use Rattle.transfers.specs.Transfers.{transferFails, transferGives, reallocated, transferred};
 
-pub fn reallocate(
-    card: Card,
+// Whatever the accounting map holds.
+pub fn reallocate<'a>(
+    owner: &'a [u8; 512],
+    channel: &'a [u8; 512],
+    charged: &'a [bool; 512],
     ids: &[u8; 4096],
     channels: &[u32; 2816],
+    terms: Terms,
     h: Header,
-    p: u8,
     r: Request,
     reply: &mut [u8],
-) -> Done
-    requires { ⌜ (4608 ≤ length (now reply)) × (p < 64) ⌝ }
-    ensures { λ d. ⌜ Ends (reallocated (now (ids .entry)) (now (channels .entry)) card h p r) d (now (reply .entry)) (now (reply .exit)) ⌝ }
+) -> Effect
+    requires { ⌜ (4608 ≤ length (now reply)) × (terms .at < 64) ⌝ }
+    ensures { λ d. ⌜ ((accounting : List ℕ) → ComesTo (λ card. reallocated (now (ids .entry)) (now (channels .entry)) card h (terms .at) r) (terms .at) terms (poolOf (now (owner .entry)) (now (channel .entry)) (now (charged .entry)) accounting) (poolOf (now (owner .entry)) (now (channel .entry)) (now (charged .entry)) accounting) d (now (reply .entry)) (now (reply .exit))) ⌝ }
 {
     if r.required < r.preferred {
-        return fail(card, ids, h, p, 0x67, reply);
+        return fail(ids, terms, h, 0x67, reply);
     }
-    let pool = card.pool;
-    let committed = card::committed_in(channels, pool, p);
+    let committed = pool::committed_of(channels, owner, channel, charged, terms.at as u8);
     if (r.required as u64) < committed {
-        return fail(card, ids, h, p, 0, reply);
+        return fail(ids, terms, h, 0, reply);
     }
-    let x = card.ports[p as usize];
+    let x = terms.x;
     give(
-        card,
         ids,
+        terms,
         h,
-        p,
         reduced(committed as u32, r.preferred, x.delegation),
         reply,
     )
@@ -53,55 +57,54 @@ fn reduced(committed: u32, preferred: u32, present: u32) -> u32
     if least < committed { committed } else { least }
 }
 
-fn fail(card: Card, ids: &[u8; 4096], h: Header, p: u8, code: u16, reply: &mut [u8]) -> Done
-    requires { ⌜ (4608 ≤ length (now reply)) × (p < 64) ⌝ }
-    ensures { λ d. ⌜ Ends (transferFails (now (ids .entry)) card h p code) d (now (reply .entry)) (now (reply .exit)) ⌝ }
+// The answer is a Failure with the present delegation, which is kept.
+fn fail(ids: &[u8; 4096], terms: Terms, h: Header, code: u16, reply: &mut [u8]) -> Effect
+    requires { ⌜ (4608 ≤ length (now reply)) × (terms .at < 64) ⌝ }
+    ensures { λ d. ⌜ ((pool : Pool) → ComesTo (λ card. transferFails (now (ids .entry)) card h (terms .at) code) (terms .at) terms pool pool d (now (reply .entry)) (now (reply .exit))) ⌝ }
 {
-    let x = card.ports[p as usize];
+    let x = terms.x;
     let n = replies::put_amount(
         reply,
         h,
         147,
         4,
         code,
-        circuits::id_at(ids, p),
+        circuits::id_at(ids, terms.at as u8),
         x.delegation,
     );
-    card::written(card, n)
+    card::changed(terms, Change::Kept, n)
 }
 
-fn give(card: Card, ids: &[u8; 4096], h: Header, p: u8, amount: u32, reply: &mut [u8]) -> Done
-    requires { ⌜ (4608 ≤ length (now reply)) × (p < 64) ⌝ }
-    ensures { λ d. ⌜ Ends (transferGives (now (ids .entry)) card h p amount) d (now (reply .entry)) (now (reply .exit)) ⌝ }
+// A Success sets the delegation and carries it.
+fn give(ids: &[u8; 4096], terms: Terms, h: Header, amount: u32, reply: &mut [u8]) -> Effect
+    requires { ⌜ (4608 ≤ length (now reply)) × (terms .at < 64) ⌝ }
+    ensures { λ d. ⌜ ((pool : Pool) → ComesTo (λ card. transferGives (now (ids .entry)) card h (terms .at) amount) (terms .at) terms pool pool d (now (reply .entry)) (now (reply .exit))) ⌝ }
 {
-    let mut c = card;
-    let table = c.ports;
-    let changed = ports::set_delegation_in(table, p as usize, amount);
-    c.ports = changed;
-    let n = replies::put_amount(reply, h, 147, 3, 0, circuits::id_at(ids, p), amount);
-    card::written(c, n)
+    let n = replies::put_amount(
+        reply,
+        h,
+        147,
+        3,
+        0,
+        circuits::id_at(ids, terms.at as u8),
+        amount,
+    );
+    card::changed(terms, Change::Delegated(amount), n)
 }
 
-pub fn transfer(card: Card, h: Header, p: u8, amount: u32) -> Done
-    requires { ⌜ p < 64 ⌝ }
-    ensures { λ d. ⌜ d ≡ doneOf (transferred card h p amount) ⌝ }
+// Whatever the maps hold.
+pub fn transfer(terms: Terms, h: Header, amount: u32) -> Effect
+    ensures { λ d. ⌜ ((pool : Pool) (text : List ℕ) → ComesTo (λ card. transferred card h (terms .at) amount) (terms .at) terms pool pool d text text) ⌝ }
 {
-    let mut c = card;
-    let x = c.ports[p as usize];
+    let x = terms.x;
     if !x.answers(h.transaction) {
-        return card::kept(c, 16);
+        return card::unchanged(terms, 16);
     }
     if h.result == 4 {
-        let table = c.ports;
-        let changed = ports::close_in(table, p as usize);
-        c.ports = changed;
-        return card::kept(c, 0);
+        return card::changed(terms, Change::Closed, 0);
     }
     if !x.within(amount) {
-        return card::kept(c, 16);
+        return card::unchanged(terms, 16);
     }
-    let table = c.ports;
-    let changed = ports::set_delegation_in(table, p as usize, amount);
-    c.ports = changed;
-    card::kept(c, 0)
+    card::changed(terms, Change::Delegated(amount), 0)
 }

@@ -1,5 +1,5 @@
 use native.Mathlib.Omega.{arith}
-use mathlib.Core.Path.{_≡_, sym, _∙_}
+use mathlib.Core.Path.{sym, _∙_}
 use Prim.Native.Nat.{_<_}
 use borrow.Author.Tests.{not-true, not-false}
 use Rattle.card.specs.Figures.{committedAt}
@@ -14,12 +14,12 @@ returns : tie.Need-returns
 unfolding committedAt
 returns c = rw (sym (c .before .is-port .ensures .0) ∙ not-true _ (c .if1 .taken))
 
-cast-committed-in : tie.Need-cast-committed-in
-cast-committed-in c = omega (arith, inside (c .before))
+cast-committed-of : tie.Need-cast-committed-of
+cast-committed-of c = omega (arith, inside (c .before .before .before .before .before))
 
 returns-2 : tie.Need-returns-2
 unfolding committedAt
-returns-2 c = rw (sym (c .before .before .before .is-port .ensures .0) ∙ not-false _ (c .before .before .if1 .left)) (c .committed-in .ensures)
+returns-2 c = rw (sym (c .before .before .before .before .before .before .before .is-port .ensures .0) ∙ not-false _ (c .before .before .before .before .before .before .if1 .left)) (c .committed-of .ensures)
 
 pub committed-spec : {M : Type 1} → statement M
 committed-spec =
@@ -27,6 +27,6 @@ committed-spec =
     (tie.spec
     (λ c κs. search needs)
     returns
-    cast-committed-in
+    cast-committed-of
     (λ c κs. search needs)
     returns-2)

@@ -5,13 +5,13 @@ use Rattle.checks.proofs.check_named.Statement.{statement}
 use Rattle.checks.proofs.check_named.Tie as tie
 
 returns : tie.Need-returns
-returns c = row-54 _ _ _ _ (sym (c .before .is-missing .ensures) ∙ c .if1 .taken)
+returns c = λ ids card g. row-54 ids card _ _ (sym (c .before .is-missing .ensures) ∙ c .if1 .taken)
 
 returns-2 : tie.Need-returns-2
-returns-2 c = row-55 _ _ _ _ (sym (c .before .before .before .is-missing .ensures) ∙ c .before .before .if1 .left) (sym (c .before .has-fault .ensures) ∙ c .if2 .taken)
+returns-2 c = λ ids card g. row-55 ids card _ _ (sym (c .before .before .before .is-missing .ensures) ∙ c .before .before .if1 .left) (sym (c .before .has-fault .ensures) ∙ c .if2 .taken)
 
 returns-3 : tie.Need-returns-3
-returns-3 c = c .check-port .ensures ∙ row-port _ _ _ _ (sym (c .before .before .before .before .before .is-missing .ensures) ∙ c .before .before .before .before .if1 .left) (sym (c .before .before .before .has-fault .ensures) ∙ c .before .before .if2 .left) (c .before .id-in .ensures)
+returns-3 c = λ ids card g. c .check-port .ensures ids card _ g ∙ row-port ids card _ _ (sym (c .before .before .before .before .is-missing .ensures) ∙ c .before .before .before .if1 .left) (sym (c .before .before .has-fault .ensures) ∙ c .before .if2 .left)
 
 pub check-named-spec : {M : Type 1} → statement M
 check-named-spec =
@@ -21,6 +21,5 @@ check-named-spec =
     returns
     (λ c κs. search needs)
     returns-2
-    (λ c κs. search needs)
     (λ c κs. search needs)
     returns-3)

@@ -14,19 +14,19 @@ sound c = c .check-list .ensures ∙ ap (λ (d : ℕ). listOk d false (c .before
 
 returns : tie.Need-returns
 unfolding tableOf
-returns c = rw (sym (c .before .handled .ensures) ∙ not-true _ (c .if1 .taken))
+returns c = λ ids card g. rw (sym (c .before .handled .ensures) ∙ not-true _ (c .if1 .taken))
 
 returns-2 : tie.Need-returns-2
 unfolding tableOf
-returns-2 c = rw (sym (c .before .before .before .handled .ensures) ∙ not-false _ (c .before .before .if1 .left), sym (c .before .result-ok .ensures) ∙ not-true _ (c .if2 .taken))
+returns-2 c = λ ids card g. rw (sym (c .before .before .before .handled .ensures) ∙ not-false _ (c .before .before .if1 .left), sym (c .before .result-ok .ensures) ∙ not-true _ (c .if2 .taken))
 
 returns-3 : tie.Need-returns-3
 unfolding tableOf
-returns-3 c = rw (sym (c .before .before .before .before .before .before .handled .ensures) ∙ not-false _ (c .before .before .before .before .before .if1 .left), sym (c .before .before .before .before .result-ok .ensures) ∙ not-false _ (c .before .before .before .if2 .left), sym (sound (c .before)) ∙ not-true _ (c .if3 .taken))
+returns-3 c = λ ids card g. rw (sym (c .before .before .before .before .before .before .handled .ensures) ∙ not-false _ (c .before .before .before .before .before .if1 .left), sym (c .before .before .before .before .result-ok .ensures) ∙ not-false _ (c .before .before .before .if2 .left), sym (sound (c .before)) ∙ not-true _ (c .if3 .taken))
 
 returns-4 : tie.Need-returns-4
 unfolding tableOf
-returns-4 c = rw (sym (c .before .before .before .before .before .before .before .handled .ensures) ∙ not-false _ (c .before .before .before .before .before .before .if1 .left), sym (c .before .before .before .before .before .result-ok .ensures) ∙ not-false _ (c .before .before .before .before .if2 .left), sym (sound (c .before .before)) ∙ not-false _ (c .before .if3 .left)) (c .check-named .ensures)
+returns-4 c = λ ids card g. rw (sym (c .before .before .before .before .before .before .before .handled .ensures) ∙ not-false _ (c .before .before .before .before .before .before .if1 .left), sym (c .before .before .before .before .before .result-ok .ensures) ∙ not-false _ (c .before .before .before .before .if2 .left), sym (sound (c .before .before)) ∙ not-false _ (c .before .if3 .left)) (c .check-named .ensures ids card g)
 
 pub check-table-spec : {M : Type 1} → statement M
 check-table-spec =

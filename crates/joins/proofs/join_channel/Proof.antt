@@ -5,7 +5,8 @@ use Rattle.pool.specs.Pool.{activeIn, poolOf}
 use Rattle.card.specs.Cards.{withPool}
 use Rattle.joins.specs.Joins.{byList}
 use Rattle.joins.proofs.Cases.{row-1, row-list}
-use Rattle.joins.proofs.Parts.{joins-silent, joins-as, decided-is}
+use Rattle.card.proofs.Parts.{comes-kept, comes-as}
+use Rattle.joins.proofs.Parts.{decided-is}
 use borrow.Author.Needs.{needs}
 use Rattle.joins.proofs.join_channel.Statement.{statement}
 use Rattle.joins.proofs.join_channel.Tie as tie
@@ -20,7 +21,7 @@ idle c = sym (c .before .is-active .ensures) ∙ c .if1 .left
 returns : tie.Need-returns
 returns c =
     let a = c .before .before .before .before .before .before .args in
-    joins-silent 1 (c .silent .ensures) refl
+    comes-kept refl 1 (c .unchanged .ensures)
     (λ card h. row-1 (a .ids .now) (a .channels .now) (a .entries .now) (withPool card (maps (c .before .before .before .before .before .before))) (a .p) (a .f) (a .k) (sym (c .before .before .is-active .ensures) ∙ c .before .if1 .taken))
 
 join-white-requires : tie.Need-join-white-requires
@@ -33,28 +34,28 @@ returns-2 : tie.Need-returns-2
 unfolding byList
 returns-2 c =
     let a = c .before .before .before .before .before .before .before .before .before .before .before .before .before .args in
-    joins-as (c .join-white .ensures (a .reply .now))
+    comes-as (c .join-white .ensures (a .reply .now))
     (λ card h. row-list (a .ids .now) (a .channels .now) (a .entries .now) (withPool card (maps (c .before .before .before .before .before .before .before .before .before .before .before .before .before))) (a .p) (a .f) (a .k) (idle (c .before .before .before .before .before .before .before .before)) (decided-is h (a .entries .now) (a .f) (c .before .before .before .before .before .before .before .list-decision .ensures)) (c .before .before .before .before .before .enum-told .given .1))
 
 returns-3 : tie.Need-returns-3
 unfolding byList
 returns-3 c =
     let a = c .before .before .before .before .before .before .before .before .before .before .before .before .args in
-    joins-as (c .before .before .join-grey .ensures (maps (c .before .before .before .before .before .before .before .before .before .before .before .before)))
+    comes-as (c .before .before .join-grey .ensures (maps (c .before .before .before .before .before .before .before .before .before .before .before .before)))
     (λ card h. row-list (a .ids .now) (a .channels .now) (a .entries .now) (withPool card (maps (c .before .before .before .before .before .before .before .before .before .before .before .before))) (a .p) (a .f) (a .k) (idle (c .before .before .before .before .before .before .before)) (decided-is h (a .entries .now) (a .f) (c .before .before .before .before .before .before .list-decision .ensures)) (c .before .before .before .before .enum-told2 .given .1))
 
 returns-4 : tie.Need-returns-4
 unfolding byList
 returns-4 c =
     let a = c .before .before .before .before .before .before .before .before .before .args in
-    joins-silent 3 (c .silent2 .ensures) refl
+    comes-kept refl 3 (c .unchanged2 .ensures)
     (λ card h. row-list (a .ids .now) (a .channels .now) (a .entries .now) (withPool card (maps (c .before .before .before .before .before .before .before .before .before))) (a .p) (a .f) (a .k) (idle (c .before .before .before .before)) (decided-is h (a .entries .now) (a .f) (c .before .before .before .list-decision .ensures)) (c .before .enum-told3 .given .1))
 
 returns-5 : tie.Need-returns-5
 unfolding byList
 returns-5 c =
     let a = c .before .before .before .before .before .before .before .before .before .args in
-    joins-silent 3 (c .silent3 .ensures) refl
+    comes-kept refl 3 (c .unchanged3 .ensures)
     (λ card h. row-list (a .ids .now) (a .channels .now) (a .entries .now) (withPool card (maps (c .before .before .before .before .before .before .before .before .before))) (a .p) (a .f) (a .k) (idle (c .before .before .before .before)) (decided-is h (a .entries .now) (a .f) (c .before .before .before .list-decision .ensures)) (c .before .enum-told4 .given .1))
 
 pub join-channel-spec : {M : Type 1} → statement M

@@ -1,10 +1,8 @@
 use native.Mathlib.Omega.{arith}
-use mathlib.Core.Path.{sym, ap, _∙_}
+use mathlib.Core.Path.{ap}
 use lib.ListN.{length}
 use Rattle.circuits.proofs.Circuits.{id-short}
-use Rattle.ports.specs.Transactions.{takenFrom}
-use Rattle.card.specs.Cards.{withPool}
-use Rattle.joins.proofs.Written.{grey-ends}
+use Rattle.joins.proofs.Written.{grey-comes}
 use borrow.Author.Needs.{needs}
 use Rattle.joins.proofs.join_grey.Statement.{statement}
 use Rattle.joins.proofs.join_grey.Tie as tie
@@ -13,13 +11,7 @@ put-admission-requires : tie.Need-put-admission-requires
 put-admission-requires c κs = (search needs, omega (arith, id-short (c .before .before .before .before .before .before .args .ids .now) (c .before .before .before .before .before .before .args .p), ap length (c .id-at .ensures)))
 
 returns : tie.Need-returns
-returns c pool =
-    let a = c .before .before .before .before .before .before .before .before .before .args in
-    record {
-      each =
-          λ card h.
-          grey-ends (a .ids .now) (withPool card pool) (a .p) (c .before .before .before .before .before .before .take .ensures ∙ ap takenFrom (sym (h .counter))) (c .before .before .before .id-at .ensures) (a .f) (c .before .before .put-admission .ensures);
-    }
+returns c = λ pool. grey-comes (c .before .before .before .before .before .before .before .before .before .args .ids .now) (c .before .before .before .before .before .before .before .before .before .args .p) (c .before .before .before .before .before .before .take .ensures) (c .before .before .before .id-at .ensures) pool (c .before .before .before .before .before .before .before .before .before .args .f) (c .before .before .put-admission .ensures)
 
 pub join-grey-spec : {M : Type 1} → statement M
 join-grey-spec =

@@ -6,9 +6,10 @@ use Rattle.card.specs.declared.Card.{Card}
 use Rattle.card.specs.Cards.{withPool}
 use Rattle.card.specs.Outcome.{becomes}
 use Rattle.joins.specs.Joins.{admitNumber}
-use Rattle.joins.specs.Parts.{HasTerms}
+use Rattle.card.specs.Parts.{HasTerms}
 use Rattle.joins.proofs.Cases.{white-refused, white-begins}
-use Rattle.joins.proofs.Parts.{joins-silent, terms-lent}
+use Rattle.card.proofs.Parts.{white-is, comes-kept}
+use Rattle.joins.proofs.Parts.{terms-lent}
 use borrow.Author.Needs.{needs}
 use Rattle.joins.proofs.join_white.Statement.{statement}
 use Rattle.joins.proofs.join_white.Tie as tie
@@ -22,12 +23,12 @@ admitted : (c : tie.After-admit-number) (card : Card) → HasTerms card (c .befo
 admitted c card h =
     let a = c .before .before .before .before .before .args in
     let pool : Pool = maps (c .before .before .before .before .before) in
-    c .admit-number .ensures (withPool card pool) (terms-lent h (c .before .before .before .before .before .pre .1) pool) ∙ ap (λ (b : Bool). admitNumber (a .channels .now) (withPool card pool) b (a .p) (a .k)) (sym (h .cac))
+    c .admit-number .ensures (withPool card pool) (terms-lent h (c .before .before .before .before .before .pre .1) pool) ∙ ap (λ (b : Bool). admitNumber (a .channels .now) (withPool card pool) b (a .p) (a .k)) (sym (white-is h))
 
 returns : tie.Need-returns
 returns c text =
     let a = c .before .before .before .before .before .before .before .args in
-    joins-silent (c .before .before .admit-number .result) (c .silent .ensures) refl
+    comes-kept refl (c .before .before .admit-number .result) (c .unchanged .ensures)
     (λ card h. white-refused (a .channels .now) (withPool card (maps (c .before .before .before .before .before .before .before))) (a .p) (a .k) (admitted (c .before .before) card h) (c .before .if1 .taken))
 
 begin-in-requires : tie.Need-begin-in-requires
@@ -37,9 +38,9 @@ returns-2 : tie.Need-returns-2
 returns-2 c text =
     let a = c .before .before .before .before .before .before .before .before .before .before .before .before .args in
     let pool : Pool = maps (c .before .before .before .before .before .before .before .before .before .before .before .before) in
-    joins-silent 0 (c .silent2 .ensures) (c .before .begin-in .ensures)
+    comes-kept (c .before .begin-in .ensures) 0 (c .unchanged2 .ensures)
     (λ card h.
-    ap (λ (b : Bool). becomes (withPool card (began pool (a .p) (a .k) b 0))) (sym (h .cac))
+    ap (λ (b : Bool). becomes (withPool card (began pool (a .p) (a .k) b 0))) (sym (white-is h))
     ∙ white-begins (a .channels .now) (withPool card pool) (a .p) (a .k) (admitted (c .before .before .before .before .before .before .before) card h) (c .before .before .before .before .before .before .if1 .left))
 
 pub join-white-spec : {M : Type 1} → statement M
