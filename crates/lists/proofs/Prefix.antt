@@ -15,7 +15,7 @@ use native.Mathlib.Nat.{suc-add, mod-one, mod-lt, add-comm}
 use native.Mathlib.Omega.{arith}
 use borrow.Author.Tests.{eqb-true, eq-eqb, leb-true, leb-false}
 use Rattle.octets.proofs.Tests.{both, same-by}
-use Rattle.flows.specs.Words.{same}
+use Rattle.flows.specs.Words.{same, addressAt}
 use Rattle.flows.proofs.Same.{same-append}
 use Rattle.lists.specs.Prefix.{bits, bitsOf, prefixMatches}
 
@@ -124,3 +124,17 @@ module _ (i : ℕ) (xs ys : List ℕ) (hx : i < length xs) (hy : i < length ys) 
 pub prefix-end : (i : ℕ) (xs ys : List ℕ) (n : ℕ) → length xs ≤ i → length ys ≤ i → prefixMatches n (drop i xs) (drop i ys) ≡ true
 unfolding prefixMatches bitsOf same
 prefix-end i xs ys n hx hy = rw (drop-of-length-le xs {i = i} hx, drop-of-length-le ys {i = i} hy, take-nil n)
+
+-- word i of an address in a table
+pub word-at : (t : List ℕ) (at i : ℕ) → i < 4 → getD (addressAt t at) i 0 ≡ getD t (at + i) 0
+word-at t at i l = go i l
+  where
+    there : (k : ℕ) → (n : ℕ) → n ≡ at + k → getD t n 0 ≡ getD t (at + k) 0
+    there k n e = ap (λ (m : ℕ). getD t m 0) e
+
+    go : (k : ℕ) → k < 4 → getD (addressAt t at) k 0 ≡ getD t (at + k) 0
+    go zero h = there 0 at (omega arith)
+    go (suc zero) h = there 1 (at + 1) refl
+    go (suc (suc zero)) h = there 2 (at + 2) refl
+    go (suc (suc (suc zero))) h = there 3 (at + 3) refl
+    go (suc (suc (suc (suc k)))) h = absurd (omega arith)

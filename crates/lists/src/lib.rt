@@ -2,7 +2,8 @@
 // A row is family, list, group prefix length, source prefix length, group (4), source (4).
 ghost use mathlib.Core.Path.{_≡_};
 ghost use mathlib.Core.List.{[], _∷_};
-ghost use Prim.Native.Nat.{_<_};
+ghost use Prim.Native.Nat.{_≤_, _<_};
+ghost use Rattle.flows.specs.Words.{addressAt};
 ghost use Rattle.lists.specs.Prefix.{prefixMatches};
 ghost use Rattle.lists.specs.Lists.{entryAt, entryMatches, weightOf, listDecision};
 ghost use Rattle.lists.specs.Standing.{strengthOf, standingOf, decisionOf};
@@ -35,14 +36,15 @@ pub enum Decision {
 
 // ---- prefixes
 
-// Two addresses agree in as many leading bits as the prefix asks, word by word.
-pub fn prefix_matches(a: [u32; 4], b: [u32; 4], length: u32) -> bool
-    ensures { λ r. ⌜ r ≡ prefixMatches length a b ⌝ }
+// The address at this place of the table and another agree in as many leading bits as the prefix asks, word by word.
+fn prefix_at(entries: &[u32; 1536], at: usize, b: [u32; 4], length: u32) -> bool
+    requires { ⌜ at ≤ 1532 ⌝ }
+    ensures { λ r. ⌜ r ≡ prefixMatches length (addressAt (now (entries .entry)) at) b ⌝ }
 {
     let mut i: usize = 0;
     let mut left = length;
     while i < 4 {
-        if !word_matches(a[i], b[i], left) {
+        if !word_matches(entries[at + i], b[i], left) {
             return false;
         }
         if left <= 32 {
@@ -58,13 +60,11 @@ pub fn prefix_matches(a: [u32; 4], b: [u32; 4], length: u32) -> bool
 fn word_matches(a: u32, b: u32, length: u32) -> bool
     ensures { λ r. ⌜ r ≡ prefixMatches length (a ∷ []) (b ∷ []) ⌝ }
 {
-    if length == 0 {
-        return true;
-    }
     if 32 <= length {
         return a == b;
     }
-    a >> (32 - length) == b >> (32 - length)
+    let k = 32 - length;
+    wide(a) >> k == wide(b) >> k
 }
 
 // ---- entries
@@ -86,23 +86,26 @@ pub fn entry_at(entries: &[u32; 1536], i: usize) -> Entry
     }
 }
 
-pub fn entry_matches(e: Entry, f: Flow) -> bool
-    ensures { λ r. ⌜ r ≡ entryMatches e f ⌝ }
+// Entry i matches the flow. What keeps most entries from it, their group, is looked at first.
+fn row_matches(entries: &[u32; 1536], i: usize, f: Flow) -> bool
+    requires { ⌜ i < 128 ⌝ }
+    ensures { λ r. ⌜ r ≡ entryMatches (entryAt (now (entries .entry)) i) f ⌝ }
 {
-    if e.family != f.family {
+    let at = i * 12;
+    let g = at + 4;
+    let fg = f.group;
+    if !prefix_at(entries, g, fg, entries[at + 2]) {
         return false;
     }
-    let eg = e.group;
-    let fg = f.group;
-    if !prefix_matches(eg, fg, e.group_length) {
+    if entries[at] != f.family {
         return false;
     }
     if f.sourced == 0 {
-        return e.source_length == 0;
+        return entries[at + 3] == 0;
     }
-    let ex = e.source;
+    let s = at + 8;
     let fx = f.source;
-    prefix_matches(ex, fx, e.source_length)
+    prefix_at(entries, s, fx, entries[at + 3])
 }
 
 // ---- the decision
@@ -115,8 +118,8 @@ pub fn list_decision(entries: &[u32; 1536], n: usize, f: Flow) -> Decision
     let mut best: u64 = 0;
     let mut i: usize = 0;
     while i < rows {
-        let e = entry_at(entries, i);
-        if entry_matches(e, f) {
+        if row_matches(entries, i, f) {
+            let e = entry_at(entries, i);
             let s = standing_of(e);
             if best < s {
                 best = s;

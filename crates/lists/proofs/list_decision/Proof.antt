@@ -1,12 +1,12 @@
-use Prim.Native.Nat.{ℕ, min}
+use Prim.Native.Nat.{ℕ, _≤_, _-_, min}
 use mathlib.Core.Path.{_≡_, refl, sym, ap, _∙_}
 use mathlib.Core.Logic.{⊎-elim}
 use native.Mathlib.Omega.{arith}
-use Rattle.lists.specs.Lists.{matching, listDecision}
+use Rattle.lists.specs.Lists.{entryAt, entryMatches, matching, listDecision}
+use Rattle.lists.specs.declared.Entry.{Entry}
 use Rattle.lists.specs.Standing.{standingOf, highest, decisionOf}
 use Rattle.lists.proofs.Standing.{decision-is, turn-raise, turn-other, turn-low}
 use borrow.Author.Needs.{needs}
-use Prim.Native.Nat.{_≤_, _-_}
 use Rattle.lists.proofs.list_decision.Statement.{statement}
 use Rattle.lists.proofs.list_decision.Tie as tie
 
@@ -18,33 +18,32 @@ abbrev μ-loop : tie.MeasureT-loop
 
 loop-holds : tie.Need-loop-holds Inv-loop μ-loop
 unfolding matching highest
-loop-holds c =
-    (search needs, refl)
+loop-holds c = (search needs, refl)
 
 loop-again : tie.Need-loop-again Inv-loop μ-loop
 loop-again c =
-    let h = c .before .before .before .before .loop in
-    let a = c .before .before .before .before .before .before .args in
-    let e = c .before .before .entry-at in
-    let m = c .before .entry-matches in
-    let t = a .entries .now in (
+    let h = c .before .before .before .loop in
+    let a = c .before .before .before .before .before .args in
+    let m = c .before .row-matches in
+    let t = a .entries .now in
+    let e = entryAt t (h .i) in (
       omega arith,
       ⊎-elim
-          (λ w. w .3 ∙ turn-raise t (a .f) (h .i) (e .result) (w .1 .result) (h .best) (e .ensures) (w .1 .ensures) (h .inv .1) (w .2 .taken) (sym (m .ensures) ∙ w .0 .taken))
+          (λ w. w .4 ∙ turn-raise t (a .f) (h .i) (w .1 .result) (w .2 .result) (h .best) (w .1 .ensures) (w .2 .ensures) (h .inv .1) (w .3 .taken) (ap (λ (x : Entry). entryMatches x (a .f)) (w .1 .ensures) ∙ sym (m .ensures) ∙ w .0 .taken))
           (⊎-elim
-          (λ w. w .3 ∙ turn-low t (a .f) (h .i) (e .result) (w .1 .result) (h .best) (e .ensures) (w .1 .ensures) (h .inv .1) (w .2 .left))
-          (λ w. w .1 ∙ turn-other t (a .f) (h .i) (e .result) (standingOf (e .result)) (h .best) (e .ensures) refl (h .inv .1) (sym (m .ensures) ∙ w .0 .left)))
+          (λ w. w .4 ∙ turn-low t (a .f) (h .i) (w .1 .result) (w .2 .result) (h .best) (w .1 .ensures) (w .2 .ensures) (h .inv .1) (w .3 .left))
+          (λ w. w .1 ∙ turn-other t (a .f) (h .i) e (standingOf e) (h .best) refl refl (h .inv .1) (sym (m .ensures) ∙ w .0 .left)))
           (c .if1 .came),
     )
 
 returns : tie.Need-returns Inv-loop μ-loop
 unfolding listDecision
 returns c =
-    let h = c .before .before in
+    let h = c .before .before .loop in
     let a = c .before .before .before .before .args in
-    let e : h .loop .i ≡ min (a .n) 128 = omega (arith, c .before .before .before .at-most .ensures) in
+    let e : h .i ≡ min (a .n) 128 = omega (arith, c .before .before .before .at-most .ensures) in
     let t = a .entries .now in
-    c .decision-of .ensures ∙ ap decisionOf (h .loop .inv .1 ∙ ap (λ (k : ℕ). highest (matching t (a .f) k)) e) ∙ decision-is (matching t (a .f) (min (a .n) 128))
+    c .decision-of .ensures ∙ ap decisionOf (h .inv .1 ∙ ap (λ (k : ℕ). highest (matching t (a .f) k)) e) ∙ decision-is (matching t (a .f) (min (a .n) 128))
 
 pub list-decision-spec : {M : Type 1} → statement M
 list-decision-spec =
