@@ -160,20 +160,22 @@ static void messages(void) {
     }
 }
 
-/* ---- stack: the free part of a thread's own stack is painted before a call, and looked at behind it */
+/* ---- stack: the free part of a thread's own stack is painted before a call, and looked at behind it; a call's frames lie below this one's */
 static uint8_t space[1 << 18] __attribute__((aligned(4096)));
+enum { GAP = 512 }; /* room for paint's own frame, which is not painted */
 
 __attribute__((noinline)) static size_t paint(void) {
     uintptr_t here = (uintptr_t)__builtin_frame_address(0), low = (uintptr_t)space;
-    size_t n = here - low - 512;
+    size_t n = here - low - GAP;
     for (size_t i = 0; i < n; i++) ((volatile uint8_t *)space)[i] = 0xA5;
     return n;
 }
 
+/* at most: what lies in the gap counts as used */
 static size_t used(size_t top) {
     size_t i = 0;
     while (i < top && space[i] == 0xA5) i++;
-    return top - i;
+    return top + GAP - i;
 }
 
 static void *deep(void *unused) {

@@ -107,12 +107,9 @@ typedef struct { ancp_card card; uint8_t number; } ancp_started;
 ancp_started ancp_card_started(const uint8_t *ids, size_t ports, const uint32_t *channels, size_t channel_count, const uint32_t *entries,
                                size_t entry_count, bool white_cac, bool add_cac, uint32_t first);
 
-/* any call: *card and the start of `reply` are written, nothing else */
+/* Any call: *card and the start of `reply` are written, nothing else. Nothing of the card is copied but one port's record and the counts. */
 ancp_answer ancp_card_call(ancp_card *card, const uint8_t *ids, const uint32_t *channels, const uint32_t *entries, ancp_call call, const uint8_t *octets,
                            size_t n, uint8_t *reply, size_t room);
-
-/* a leave that copies nothing of the card; it comes to the same as ANCP_CALL_LEAVE */
-uint8_t ancp_card_leave_in(ancp_card *card, const uint32_t *channels, size_t p, ancp_flow f);
 
 /* the readers take the card by value */
 bool ancp_card_up_in(ancp_card card, size_t p);
@@ -180,7 +177,7 @@ static inline uint8_t ancp_card_join(ancp_card *card, const ancp_tables *t, size
 
 /* The flow ends, whoever began it. */
 static inline uint8_t ancp_card_leave(ancp_card *card, const ancp_tables *t, size_t p, const ancp_flow *f) {
-    return ancp_card_leave_in(card, t->channels, p, *f);
+    return ancp_silent(card, t, ancp_call_with(ANCP_CALL_LEAVE, p, f));
 }
 
 /* Writes a request for bandwidth (146) to the server, which is then open. */

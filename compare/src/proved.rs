@@ -109,7 +109,6 @@ extern "C" {
         reply: *mut u8,
         room: usize,
     ) -> RawAnswer;
-    fn ancp_card_leave_in(card: *mut RawCard, channels: Words, p: usize, f: RawFlow) -> u8;
     fn ancp_card_up_in(card: RawCard, p: usize) -> bool;
     fn ancp_card_delegation_in(card: RawCard, p: usize) -> u32;
     fn ancp_card_committed_in(card: RawCard, channels: Words, p: usize) -> u64;
@@ -198,13 +197,8 @@ impl Proved {
         self.call(call_with(JOIN, p, f), &[], reply)
     }
 
-    /// Both ways to leave are compared: ports with an odd number go by the function that copies nothing.
     pub fn leave(&mut self, p: usize, f: &HostFlow) -> ProvedAnswer {
-        if p % 2 == 0 {
-            return self.call(call_with(LEAVE, p, f), &[], &mut []);
-        }
-        let number = unsafe { ancp_card_leave_in(&mut self.card, self.tables.channels.as_ptr(), p, raw_flow(f)) };
-        ProvedAnswer { number, length: 0 }
+        self.call(call_with(LEAVE, p, f), &[], &mut [])
     }
 
     pub fn ask(&mut self, p: usize, required: u32, preferred: u32, reply: &mut [u8]) -> ProvedAnswer {

@@ -1,17 +1,13 @@
--- A C host's call as a call of demand 3, and what the host has of its outcome. Assumes nothing: these are definitions.
+-- A host's call as a call of demand 3, and the port that it is about. Assumes nothing: these are definitions.
 use Prim.Native.Nat.{ℕ}
-use mathlib.Core.Path.{_≡_}
 use mathlib.Core.Bool.{cond}
 use mathlib.Core.List.{List}
-use lib.ListN.{length}
-use lib.Dec.{eqb}
-use Rattle.octets.specs.Writing.{over}
+use lib.Dec.{eqb, ltb}
 use Rattle.card.specs.declared.Card.{Card}
-use Rattle.card.specs.Outcome.{Outcome}
+use Rattle.messages.specs.Messages.{namedIn}
 use Rattle.demand3.specs.Calls.{Tables, Call}
 use Rattle.demand3.specs.Calls.Call.{portUp, portDown, setDelegation, join, leave, ask, message}
-use Rattle.exports.specs.declared.HostCall.{HostCall}
-use Rattle.exports.specs.declared.Answer.{Answer}
+use Rattle.calls.specs.declared.HostCall.{HostCall}
 
 -- the three lent tables, with the counts and switches that the card keeps
 abbrev pub tablesOf : Card → List ℕ → List ℕ → List ℕ → Tables
@@ -41,9 +37,6 @@ numbered n c octets room =
 abbrev pub callOf : HostCall → List ℕ → ℕ → Call
 callOf c = numbered (c .which) c
 
--- what the host has after a call that came to o: the answer, its card, and the buffer that it lent for the reply
-pub record Answers (o : Outcome) (r : Answer) (card : Card) (before after : List ℕ) : Type 0 where
-  pub number : r .number ≡ o .number
-  pub size : r .length ≡ length (o .reply)
-  pub kept : card ≡ o .card
-  pub text : after ≡ over (o .reply) before
+-- the port that a call is about: the host's number, or that of the port which a message's Target names
+unfoldable pub portAbout : List ℕ → ℕ → HostCall → List ℕ → ℕ
+portAbout ids count c octets = cond (ltb (c .which) 6) (c .port) (namedIn ids count octets)

@@ -1,0 +1,16 @@
+-- What a C host has of a call's outcome. Assumes nothing: these are definitions.
+use mathlib.Core.Path.{_≡_}
+use Prim.Native.Nat.{ℕ}
+use mathlib.Core.List.{List}
+use lib.ListN.{length}
+use Rattle.octets.specs.Writing.{over}
+use Rattle.card.specs.declared.Card.{Card}
+use Rattle.card.specs.Outcome.{Outcome}
+use Rattle.exports.specs.declared.Answer.{Answer}
+
+-- what the host has after a call that came to o: the answer, its card, and the buffer that it lent for the reply
+pub record Answers (o : Outcome) (r : Answer) (card : Card) (before after : List ℕ) : Type 0 where
+  pub number : r .number ≡ o .number
+  pub size : r .length ≡ length (o .reply)
+  pub kept : card ≡ o .card
+  pub text : after ≡ over (o .reply) before
