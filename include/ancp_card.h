@@ -6,7 +6,8 @@
 
    Across a restart: store ancp_card_next_transaction, and give a first transaction number that is not in use to the next start.
 
-   Link with libexports.a (`rt staticlib exports`), whose functions are proved; the inline functions here only hand the arguments on. */
+   Link with libancp_card.a (`make -C host` makes it by `rt staticlib exports`), whose functions are proved; the inline functions here only hand the
+   arguments on. */
 #ifndef ANCP_CARD_H
 #define ANCP_CARD_H
 

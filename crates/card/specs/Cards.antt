@@ -1,7 +1,7 @@
 -- The card's parts, and the card with one part changed. Assumes nothing: these are definitions.
 use Prim.Native.Nat.{ℕ}
 use mathlib.Core.Bool.{Bool}
-use mathlib.Core.List.{List, [], _∷_}
+use mathlib.Core.List.{[], _∷_}
 use lib.ListN.{getD, set}
 use lib.Dec.{ltb}
 use Rattle.octets.specs.Tests.{every}

@@ -6,7 +6,6 @@ use mathlib.Core.Bool.{Bool, true, false, cond, _||_}
 use mathlib.Core.List.{List, [], _∷_}
 use lib.ListN.{length}
 use lib.Dec.{eqb}
-use Rattle.octets.specs.Tests.{every}
 use Rattle.header.specs.declared.Header.{Header}
 use Rattle.tlv.specs.Depth.{depthOf, listOk}
 use Rattle.items.specs.Items.{Item, itemsOf, firstOf}

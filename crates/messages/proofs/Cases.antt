@@ -20,7 +20,7 @@ use Rattle.header.specs.declared.Head.the-variants.{Unusable, Usable}
 use Rattle.header.specs.Header.{sizeOk, headIn}
 use Rattle.items.specs.Items.{itemsOf, firstOf}
 use Rattle.fields.specs.declared.Request.{Request}
-use Rattle.fields.specs.Fields.{allocationIn, requestIn}
+use Rattle.fields.specs.Fields.{requestIn}
 use Rattle.pool.specs.declared.Pool.{Pool}
 use Rattle.card.specs.declared.Card.{Card}
 use Rattle.card.specs.declared.Terms.{Terms}

@@ -1,7 +1,6 @@
 use mathlib.Core.Path.{ap}
 use mathlib.Core.List.{List}
 use Rattle.ports.specs.declared.Port.{Port}
-use Rattle.card.specs.declared.Done.{Done}
 use Rattle.card.specs.Cards.{withPool, withCounter}
 use Rattle.card.proofs.Parts.{withTable}
 use borrow.Author.Needs.{needs}

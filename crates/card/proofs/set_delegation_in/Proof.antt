@@ -4,7 +4,6 @@ use mathlib.Core.Bool.{true}
 use Prim.Native.Nat.{_<_}
 use borrow.Author.Tests.{not-true, not-false, le-leb, lt-leb}
 use Rattle.ports.specs.declared.Change.the-variants.{Delegated}
-use Rattle.pool.specs.declared.Pool.{Pool}
 use Rattle.pool.specs.Pool.{poolOf}
 use Rattle.card.specs.Cards.{isPort, withPool}
 use Rattle.card.proofs.Cases.{delegation-7, delegation-11, delegation-set}
