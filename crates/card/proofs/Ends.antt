@@ -1,9 +1,8 @@
 -- What a function that comes to an outcome shows of its answer and of the buffer that it is lent. Assumes nothing.
-use mathlib.Core.Path.{_≡_, sym, ap, subst, _∙_}
-use mathlib.Core.Bool.{Bool, true, false, cond}
-use mathlib.Core.List.{List, []}
+use mathlib.Core.Path.{_≡_, sym, ap, subst}
+use mathlib.Core.List.{List}
 use Prim.Native.Nat.{ℕ}
-use Rattle.octets.specs.Writing.{over, Wrote}
+use Rattle.octets.specs.Writing.{Wrote}
 use Rattle.octets.proofs.Writing.{over-none}
 use Rattle.card.specs.declared.Card.{Card}
 use Rattle.card.specs.declared.Done.{Done}
@@ -12,15 +11,6 @@ use Rattle.card.specs.Outcome.{Outcome, keeps, writes, doneOf, Ends}
 -- what another call came to
 pub ends-as : {o q : Outcome} {r : Done} {before after : List ℕ} → Ends q r before after → q ≡ o → Ends o r before after
 ends-as {o} {q} {r} {before} {after} h k = subst (λ (x : Outcome). Ends x r before after) k h
-
--- an outcome without a reply
-pub ends-silent : {o q : Outcome} {r : Done} (b : List ℕ) → r ≡ doneOf q → q .reply ≡ [] → q ≡ o → Ends o r b b
-ends-silent b e s k = ends-as (record { gives = e; text = over-none b ∙ ap (λ (w : List ℕ). over w b) (sym s) }) k
-
--- two outcomes without a reply
-pub silent-by : (b : Bool) (x y : Outcome) → x .reply ≡ [] → y .reply ≡ [] → cond b x y .reply ≡ []
-silent-by true x y hx hy = hx
-silent-by false x y hx hy = hy
 
 -- nothing is written: the number and the card alone
 pub ends-kept : {o : Outcome} {r : Done} (card : Card) (n : ℕ) (b : List ℕ) → r ≡ doneOf (keeps card n) → keeps card n ≡ o → Ends o r b b

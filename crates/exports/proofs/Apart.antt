@@ -5,8 +5,8 @@
 --     apart, together  a struct's cell gives its fields' cells and a way back (`Joins`), which is at any values of the fields
 --     laid             what lies in memory, with its machine value written out
 --     lent, returned   a cell is lent as a `&mut` for a new lifetime; once that ends it holds what the reference held last
---     shown, unshown   a cell is lent as a `&`, and comes back as it was
 --     element, inside  one element of an array's cell, and the array's cell with a value in its place
+--     field-lent, field-returned   an array of plain elements that is a field: lent as a `&mut` for a new lifetime, and back
 -- The rows are those that own only facts (`makes`) and whose machine value is a function of the value (`tells`). Assumes `Given`.
 use mathlib.Core.Path.{_≡_, refl, sym, subst, _∙_}
 use Prim.Native.Nat.{ℕ, zero, _+_, _*_, _<_}
@@ -24,16 +24,16 @@ use prog.Model.{fieldsAt}
 use prog.Wp.{Heap}
 use ghost.Atoms.{Atoms}
 use types.Kit.{Given, Item, Sq, Goal, Soaks, ‵, raw, some, later, _⊛_, _$_, !, move, drop, use0, use1, use2, use3, split, pick, rewrite, fsplit, fjoin, fpick, fpack, feqL, feqI, await}
-use types.Tokens.{lft-new, lft-end, lent-back}
+use types.Tokens.{lft-new, lft-end}
 use types.SemTy.{Body}
 use types.Share.{arr-parts}
 use denote.RattleType.{RattleType, mirs, flat}
 use denote.Laws.{Is, Tells, Makes, shows, valss}
 use denote.Memory.{mem, cellAt, partAt, partOf, shares}
-use denote.Ref.{RefT, MutRef, ShrRef}
+use denote.Ref.{RefT, MutRef}
 use denote.Array.{Array, array-vals, array-tells, array-makes}
 use denote.ArrayMemory.{Single, array-apart, array-whole}
-use denote.Lend.{lends-ref, ref-back, lends-shr}
+use denote.Lend.{lends-ref, ref-back}
 use denote.Index.{others, elem-out, elem-put, place-is}
 use denote.Steps.{owned, facts}
 use denote.Struct.Steps.{spelt}
@@ -116,17 +116,6 @@ module _ {M : Type 1} (𝓤 : URA M) (H : Heap 𝓤) (A : Atoms 𝓤) (W : Given
     pub returned : Soaks G → (ν : ℕ) (δ : GName) (z : R .Denot) → (Is R z (vals z) → Sq W (‵ (cellAt fullShare (R .mir) (vals z) b o) ∷ Γ) G)
         → Sq W (‵ (flft (ν ∷ []) fullShare) ∷ ‵ (fres δ (R .coded .code z)) ∷ ‵ (flent (ν ∷ []) (Body (mem R) b o δ)) ∷ Γ) G
     returned s ν δ z k = lft-end ! s $ move ! (0 ∷ 2 ∷ 1 ∷ []) $ use3 W (later (‵ (partAt R fullShare z b o))) (ref-back 𝓤 H A W R (ν ∷ []) δ z b o) $ await ! s $ laid z k
-
-    pub shown : Soaks G → (ℓ : Lifetime) (x : R .Denot) → Is R x (vals x)
-        → ((ν : ℕ) (δ : GName) → Sq W (‵ (flft (ν ∷ []) fullShare) ∷ ‵ (ShrRef ℓ (ν ∷ []) R .own (lent-as b o x δ) (vptr b o ∷ [])) ∷ ‵ (flent (ν ∷ []) (partAt R fullShare x b o)) ∷ Γ) G)
-        → Sq W (‵ (cellAt fullShare (R .mir) (vals x) b o) ∷ Γ) G
-    shown s ℓ x is k = lies x is (lft-new ! s (λ ν. move ! (1 ∷ []) $
-        use1 W (later (some (λ (δ : GName). ‵ (ShrRef ℓ (ν ∷ []) R .own (lent-as b o x δ) (vptr b o ∷ [])) ⊛ ‵ (flent (ν ∷ []) (partAt R fullShare x b o))))) (lends-shr 𝓤 H A W R ℓ (ν ∷ []) fullShare x b o) $
-        await ! s $ pick ! (λ δ. split ! $ move ! (2 ∷ []) $ k ν δ)))
-
-    pub unshown : Soaks G → (ν : ℕ) (x : R .Denot) → (Is R x (vals x) → Sq W (‵ (cellAt fullShare (R .mir) (vals x) b o) ∷ Γ) G)
-        → Sq W (‵ (flft (ν ∷ []) fullShare) ∷ ‵ (flent (ν ∷ []) (partAt R fullShare x b o)) ∷ Γ) G
-    unshown s ν x k = lft-end ! s $ lent-back ! s $ laid x k
 
 -- ---- an element of an array
 module _ {M : Type 1} (𝓤 : URA M) (H : Heap 𝓤) (A : Atoms 𝓤) (W : Given 𝓤 H A) (R : RattleType) (one : Single (R .mir)) (makes : Makes 𝓤 H A R (Is R)) (vals : R .Denot → List Val) (tells : Tells R (Is R) vals) (n : ℕ) where
