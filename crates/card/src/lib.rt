@@ -1,4 +1,4 @@
-// The card by value: start, port up, port down, set delegation, leave, and what a host may read.
+// The card: start; port up, port down, set delegation and leave, each on the card by value and on its parts; what a host may read.
 use flows::Flow;
 use pool::Pool;
 use ports::Change;
