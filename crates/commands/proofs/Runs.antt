@@ -14,33 +14,36 @@ use Rattle.flows.specs.declared.Flow.{Flow}
 use Rattle.rows.specs.declared.Found.{Found}
 use Rattle.rows.specs.declared.Found.the-variants.{At, Nothing}
 use Rattle.channels.specs.Channels.{channelOf}
+use Rattle.ports.specs.declared.Port.{Port}
 use Rattle.pool.specs.declared.Pool.{Pool}
 use Rattle.pool.specs.Pool.{Whole, isActive, hasFlow, began, endedFlow, accounted}
 use Rattle.card.specs.declared.Card.{Card}
+use Rattle.card.specs.declared.Terms.{Terms}
 use Rattle.card.specs.Cards.{withPool}
+use Rattle.card.specs.Parts.{HasTerms}
+use Rattle.card.proofs.Parts.{channels-are, record-is}
 use Rattle.joins.specs.Joins.{AsLent, admitNumber}
 use Rattle.commands.specs.Orders.{Order, orderOf}
 use Rattle.commands.specs.Orders.Order.{ill, add, delete, deleteAll}
 use Rattle.commands.specs.declared.Ran.{Ran}
-use Rattle.commands.specs.declared.Terms.{Terms}
-use Rattle.commands.specs.Commands.{fails, succeeds, addNew, addRow, deleteFlow, obeyed, ranOf, HasTerms, ranWith, Runs}
+use Rattle.commands.specs.Commands.{fails, succeeds, addNew, addRow, deleteFlow, obeyed, ranOf, ranWith, Runs}
 
 module _ {ran : Card → Ran} {terms : Terms} {before after : Pool} where
-  pub runs-by : (code : ℕ) {y : Pool} → after ≡ y → Whole y → ((card : Card) → HasTerms card terms → ranWith card y code ≡ ran (withPool card before))
+  pub runs-by : (code : ℕ) {y : Pool} → after ≡ y → Whole y → ((card : Card) → HasTerms card (terms .at) terms → ranWith card y code ≡ ran (withPool card before))
       → Runs ran terms before after code
   runs-by code {y} e w f =
       record { each = λ card h. sym (ap (λ (z : Pool). ranWith card z code) e ∙ f card h); whole = subst (λ (z : Pool). Whole z) (sym e) w }
 
   pub runs-as : {other : Card → Ran} {code : ℕ} → Runs other terms before after code
-      → ((card : Card) → HasTerms card terms → other (withPool card before) ≡ ran (withPool card before)) → Runs ran terms before after code
+      → ((card : Card) → HasTerms card (terms .at) terms → other (withPool card before) ≡ ran (withPool card before)) → Runs ran terms before after code
   runs-as r f = record { each = λ card h. sym (f card h) ∙ r .each card h; whole = r .whole }
 
-module _ {card : Card} {terms : Terms} (h : HasTerms card terms) where
-  pub terms-lent : (pool : Pool) → AsLent (withPool card pool) (pool .owner) (pool .channel) (pool .charged) (terms .port) (terms .delegation)
-  terms-lent pool = record { owner = refl; channel = refl; charged = refl; delegation = h .delegation }
+module _ {card : Card} {terms : Terms} (h : HasTerms card (terms .at) terms) where
+  pub terms-lent : (pool : Pool) → AsLent (withPool card pool) (pool .owner) (pool .channel) (pool .charged) (terms .at) (terms .x .delegation)
+  terms-lent pool = record { owner = refl; channel = refl; charged = refl; delegation = ap (λ (x : Port). x .delegation) (record-is h) }
 
   pub listed : (channels : List ℕ) (f : Flow) {found x : Found} → found ≡ channelOf channels (terms .«channel_count») f → found ≡ x → channelOf channels (card .«channel_count») f ≡ x
-  listed channels f e t = ap (λ (n : ℕ). channelOf channels n f) (h .count) ∙ sym e ∙ t
+  listed channels f e t = ap (λ (n : ℕ). channelOf channels n f) (channels-are h) ∙ sym e ∙ t
 
 -- ---- a failed command changes nothing
 module _ (channels : List ℕ) (card : Card) (p : ℕ) where

@@ -11,12 +11,13 @@ use Rattle.channels.specs.Channels.{channelOf}
 use Rattle.pool.specs.declared.Pool.{Pool}
 use Rattle.pool.specs.Pool.{Whole, isActive, hasFlow, began, endedFlow, endedAll, accounted}
 use Rattle.card.specs.declared.Card.{Card}
-use Rattle.card.specs.Cards.{portAt, withPool}
+use Rattle.card.specs.declared.Terms.{Terms}
+use Rattle.card.specs.Cards.{withPool}
+use Rattle.card.specs.Parts.{HasTerms}
 use Rattle.joins.specs.Joins.{admitNumber}
 use Rattle.commands.specs.Orders.{Order, orderOf}
 use Rattle.commands.specs.Orders.Order.{ill, add, delete, deleteAll}
 use Rattle.commands.specs.declared.Ran.{Ran}
-use Rattle.commands.specs.declared.Terms.{Terms}
 
 -- a failed command changes nothing
 abbrev pub fails : Card → ℕ → Ran
@@ -56,17 +57,11 @@ ranOf channels card p c = obeyed channels card p (orderOf c)
 
 -- ---- the same on maps that are lent
 
--- what a command asks of the card besides its maps
-pub record HasTerms (card : Card) (terms : Terms) : Type 0 where
-  pub count : card .«channel_count» ≡ terms .«channel_count»
-  pub delegation : portAt card (terms .port) .delegation ≡ terms .delegation
-  pub cac : card .«add_cac» ≡ terms .«add_cac»
-
 abbrev pub ranWith : Card → Pool → ℕ → Ran
 ranWith card pool code = record { card = withPool card pool; code = code }
 
 -- a function that was lent the maps `before`, left them as `after` and gave the code: on every card with these terms and maps
 -- that is what `ran` comes to
 pub record Runs (ran : Card → Ran) (terms : Terms) (before after : Pool) (code : ℕ) : Type 0 where
-  pub each : (card : Card) → HasTerms card terms → ran (withPool card before) ≡ ranWith card after code
+  pub each : (card : Card) → HasTerms card (terms .at) terms → ran (withPool card before) ≡ ranWith card after code
   pub whole : Whole after

@@ -1,5 +1,6 @@
 // One command of a Multicast Replication Control message (144), on the pool's four maps, which are lent and changed in place.
 use card::Card;
+use card::Terms;
 use fields::Command;
 use fields::FLOW;
 use flows::Flow;
@@ -7,7 +8,7 @@ use rows::Found;
 ghost use mathlib.Core.Path.{_≡_};
 ghost use mathlib.Core.Bool.{Bool};
 ghost use mathlib.Core.List.{List};
-ghost use Prim.Native.Nat.{ℕ};
+ghost use Prim.Native.Nat.{ℕ, _<_};
 ghost use lib.ListN.{length};
 ghost use Rattle.fields.specs.Fields.{commandIn};
 ghost use Rattle.channels.specs.Channels.{channelOf};
@@ -22,16 +23,7 @@ pub struct Ran {
     pub code: u16,
 }
 
-// What a command asks of the card besides its maps: the port, the number of channels, the port's delegation, MRepCtl-CAC.
-#[repr(C)]
-pub struct Terms {
-    pub port: u8,
-    pub channel_count: usize,
-    pub delegation: u32,
-    pub add_cac: bool,
-}
-
-// The answer is the result code: 0 for success.
+// On the port at the terms' place; the answer is the result code: 0 for success.
 pub fn run_command(
     channels: &[u32; 2816],
     terms: Terms,
@@ -41,15 +33,16 @@ pub fn run_command(
     charged: &mut [bool; 512],
     accounting: &mut [u8; 512],
 ) -> u16
-    requires { ⌜ Whole (poolOf (now owner) (now channel) (now charged) (now accounting)) ⌝ }
-    ensures { λ r. ⌜ Runs (λ card. ranOf (now (channels .entry)) card (terms .port) (now (c .entry))) terms (poolOf (now (owner .entry)) (now (channel .entry)) (now (charged .entry)) (now (accounting .entry))) (poolOf (now (owner .exit)) (now (channel .exit)) (now (charged .exit)) (now (accounting .exit))) r ⌝ }
+    requires { ⌜ (terms .at < 256) × Whole (poolOf (now owner) (now channel) (now charged) (now accounting)) ⌝ }
+    ensures { λ r. ⌜ Runs (λ card. ranOf (now (channels .entry)) card (terms .at) (now (c .entry))) terms (poolOf (now (owner .entry)) (now (channel .entry)) (now (charged .entry)) (now (accounting .entry))) (poolOf (now (owner .exit)) (now (channel .exit)) (now (charged .exit)) (now (accounting .exit))) r ⌝ }
 {
     let command = fields::command_in(c);
     if !shape_ok(command, c) {
         return 0x64;
     }
     if command.code == 3 {
-        pool::end_all_in(owner, terms.port);
+        let p = terms.at as u8;
+        pool::end_all_in(owner, p);
         return 0;
     }
     run_flow(
@@ -104,8 +97,8 @@ fn run_flow(
     charged: &mut [bool; 512],
     accounting: &mut [u8; 512],
 ) -> u16
-    requires { ⌜ Whole (poolOf (now owner) (now channel) (now charged) (now accounting)) ⌝ }
-    ensures { λ r. ⌜ Runs (λ card. obeyed (now (channels .entry)) card (terms .port) (flowOrder (command .code) (command .accounting) (now (c .entry)))) terms (poolOf (now (owner .entry)) (now (channel .entry)) (now (charged .entry)) (now (accounting .entry))) (poolOf (now (owner .exit)) (now (channel .exit)) (now (charged .exit)) (now (accounting .exit))) r ⌝ }
+    requires { ⌜ (terms .at < 256) × Whole (poolOf (now owner) (now channel) (now charged) (now accounting)) ⌝ }
+    ensures { λ r. ⌜ Runs (λ card. obeyed (now (channels .entry)) card (terms .at) (flowOrder (command .code) (command .accounting) (now (c .entry)))) terms (poolOf (now (owner .entry)) (now (channel .entry)) (now (charged .entry)) (now (accounting .entry))) (poolOf (now (owner .exit)) (now (channel .exit)) (now (charged .exit)) (now (accounting .exit))) r ⌝ }
 {
     if !flow_octets::flow_formed(c) {
         return 0x55;
@@ -139,8 +132,8 @@ fn add(
     charged: &mut [bool; 512],
     accounting: &mut [u8; 512],
 ) -> u16
-    requires { ⌜ Whole (poolOf (now owner) (now channel) (now charged) (now accounting)) ⌝ }
-    ensures { λ r. ⌜ Runs (λ card. addRow (now (channels .entry)) card (terms .port) value (channelOf (now (channels .entry)) (card .«channel_count») f)) terms (poolOf (now (owner .entry)) (now (channel .entry)) (now (charged .entry)) (now (accounting .entry))) (poolOf (now (owner .exit)) (now (channel .exit)) (now (charged .exit)) (now (accounting .exit))) r ⌝ }
+    requires { ⌜ (terms .at < 256) × Whole (poolOf (now owner) (now channel) (now charged) (now accounting)) ⌝ }
+    ensures { λ r. ⌜ Runs (λ card. addRow (now (channels .entry)) card (terms .at) value (channelOf (now (channels .entry)) (card .«channel_count») f)) terms (poolOf (now (owner .entry)) (now (channel .entry)) (now (charged .entry)) (now (accounting .entry))) (poolOf (now (owner .exit)) (now (channel .exit)) (now (charged .exit)) (now (accounting .exit))) r ⌝ }
 {
     let found = channels::channel_of(channels, terms.channel_count, f);
     match found {
@@ -169,26 +162,16 @@ fn add_channel(
     charged: &mut [bool; 512],
     accounting: &mut [u8; 512],
 ) -> u16
-    requires { ⌜ Whole (poolOf (now owner) (now channel) (now charged) (now accounting)) ⌝ }
-    ensures { λ r. ⌜ Runs (λ card. addRow (now (channels .entry)) card (terms .port) value (Found.At k)) terms (poolOf (now (owner .entry)) (now (channel .entry)) (now (charged .entry)) (now (accounting .entry))) (poolOf (now (owner .exit)) (now (channel .exit)) (now (charged .exit)) (now (accounting .exit))) r ⌝ }
+    requires { ⌜ (terms .at < 256) × Whole (poolOf (now owner) (now channel) (now charged) (now accounting)) ⌝ }
+    ensures { λ r. ⌜ Runs (λ card. addRow (now (channels .entry)) card (terms .at) value (Found.At k)) terms (poolOf (now (owner .entry)) (now (channel .entry)) (now (charged .entry)) (now (accounting .entry))) (poolOf (now (owner .exit)) (now (channel .exit)) (now (charged .exit)) (now (accounting .exit))) r ⌝ }
 {
-    let p = terms.port;
+    let p = terms.at as u8;
+    let x = terms.x;
     let cac = terms.add_cac;
     if pool::account_in(accounting, owner, channel, p, k, value) {
         return 0;
     }
-    if joins::admit_number(
-        channels,
-        owner,
-        channel,
-        charged,
-        terms.delegation,
-        cac,
-        p,
-        k,
-    )
-        != 0
-    {
+    if joins::admit_number(channels, owner, channel, charged, x.delegation, cac, p, k) != 0 {
         return 0x13;
     }
     pool::begin_in(owner, channel, charged, accounting, p, k, cac, value);
@@ -203,10 +186,11 @@ fn delete(
     owner: &mut [u8; 512],
     channel: &[u8; 512],
 ) -> u16
-    requires { ⌜ length (now owner) ≡ 512 ⌝ }
-    ensures { λ r. ⌜ ((charged : List Bool) (accounting : List ℕ) → Whole (poolOf (now (owner .entry)) (now (channel .entry)) charged accounting) → Runs (λ card. deleteFlow (now (channels .entry)) card (terms .port) f) terms (poolOf (now (owner .entry)) (now (channel .entry)) charged accounting) (poolOf (now (owner .exit)) (now (channel .entry)) charged accounting) r) ⌝ }
+    requires { ⌜ (terms .at < 256) × (length (now owner) ≡ 512) ⌝ }
+    ensures { λ r. ⌜ ((charged : List Bool) (accounting : List ℕ) → Whole (poolOf (now (owner .entry)) (now (channel .entry)) charged accounting) → Runs (λ card. deleteFlow (now (channels .entry)) card (terms .at) f) terms (poolOf (now (owner .entry)) (now (channel .entry)) charged accounting) (poolOf (now (owner .exit)) (now (channel .entry)) charged accounting) r) ⌝ }
 {
-    if pool::end_in(owner, channel, channels, terms.port, f) {
+    let p = terms.at as u8;
+    if pool::end_in(owner, channel, channels, p, f) {
         return 0;
     }
     0x66

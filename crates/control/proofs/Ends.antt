@@ -3,7 +3,6 @@ use mathlib.Core.Path.{_≡_, refl, sym, ap, subst, _∙_}
 use mathlib.Core.List.{List}
 use Prim.Native.Nat.{ℕ}
 use Rattle.octets.specs.Writing.{Wrote}
-use Rattle.ports.specs.declared.Port.{Port}
 use Rattle.ports.specs.declared.Counter.{Counter}
 use Rattle.ports.specs.declared.Change.the-variants.{Kept}
 use Rattle.pool.specs.declared.Pool.{Pool}
@@ -13,11 +12,9 @@ use Rattle.card.specs.declared.Terms.{Terms}
 use Rattle.card.specs.declared.Effect.{Effect}
 use Rattle.card.specs.Cards.{withPool, withCounter}
 use Rattle.card.specs.Outcome.{Outcome, writes, Ends}
-use Rattle.card.specs.Parts.{HasTerms, changedAt, doneWith, ComesTo}
+use Rattle.card.specs.Parts.{changedAt, doneWith, ComesTo}
 use Rattle.card.proofs.Ends.{made, ends-as, ends-writes}
-use Rattle.card.proofs.Parts.{channels-are, add-is, counter-is, record-is, kept-at}
-use Rattle.commands.specs.declared.Terms as asked
-use Rattle.commands.specs.Commands as commands
+use Rattle.card.proofs.Parts.{counter-is, kept-at}
 use Rattle.control.specs.Control.{wrote, Controls}
 
 -- a writer wrote the reply, and r tells how many octets
@@ -33,20 +30,13 @@ ends-from {o} {r} {b} {before} {after} e h = subst (λ (l : List ℕ). Ends o r 
 pub ends-by : {o : Outcome} {r d : Done} {before after : List ℕ} → Ends o d before after → r ≡ d → Ends o r before after
 ends-by h e = record { gives = e ∙ h .gives; text = h .text }
 
--- what a command asks of the card, of the terms of a call on the port
-abbrev pub askedOf : Terms → asked.Terms
-askedOf t = record { port = t .at; «channel_count» = t .«channel_count»; delegation = t .x .delegation; «add_cac» = t .«add_cac» }
-
-has-asked : {card : Card} {terms : Terms} → HasTerms card (terms .at) terms → commands.HasTerms card (askedOf terms)
-has-asked h = record { count = channels-are h; delegation = ap (λ (x : Port). x .delegation) (record-is h); cac = add-is h }
-
 -- the commands ran on the lent maps, and no port's record changes
-pub comes-controlled : {o : Card → Outcome} {terms : Terms} {before after : Pool} {n : ℕ} {text written : List ℕ} → Controls o (askedOf terms) before after n text written
+pub comes-controlled : {o : Card → Outcome} {terms : Terms} {before after : Pool} {n : ℕ} {text written : List ℕ} → Controls o terms before after n text written
     → {r : Effect} → r ≡ record { number = 0; length = n; counter = terms .counter; change = Kept } → ComesTo o (terms .at) terms before after r text written
 comes-controlled {terms = terms} {after = after} {n} g e = record {
   each =
       λ card h.
-      ends-by (g .each card (has-asked h))
+      ends-by (g .each card h)
       (ap (doneWith card (terms .at) after) e
       ∙ ap (λ (k : Counter). wrote (withCounter (changedAt (withPool card after) (terms .at) Kept) k) n) (sym (counter-is h))
       ∙ ap (λ (x : Card). wrote x n) (kept-at (withPool card after) (terms .at)));

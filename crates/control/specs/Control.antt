@@ -12,10 +12,11 @@ use Rattle.circuits.specs.Circuits.{idAt}
 use Rattle.pool.specs.declared.Pool.{Pool}
 use Rattle.card.specs.declared.Card.{Card}
 use Rattle.card.specs.declared.Done.{Done}
+use Rattle.card.specs.declared.Terms.{Terms}
 use Rattle.card.specs.Cards.{withPool}
 use Rattle.card.specs.Outcome.{Outcome, becomes, writes, Ends}
-use Rattle.commands.specs.declared.Terms.{Terms}
-use Rattle.commands.specs.Commands.{ranOf, HasTerms}
+use Rattle.card.specs.Parts.{HasTerms}
+use Rattle.commands.specs.Commands.{ranOf}
 
 -- "Failure: Generic Response, Status-Info enclosing Target, Sequence-Number (first command is 1) and the failed Command as received"
 unfoldable pub failureOf : Header → ℕ → List ℕ → ℕ → List ℕ → List ℕ
@@ -49,4 +50,4 @@ wrote card n = record { card = card; number = 0; length = n }
 -- a function that was lent the maps `before` and the buffer `text`, left the maps as `after` and the buffer as `written`, and wrote n
 -- octets: on every card with these terms and maps that is what `o` comes to
 pub record Controls (o : Card → Outcome) (terms : Terms) (before after : Pool) (n : ℕ) (text written : List ℕ) : Type 0 where
-  pub each : (card : Card) → HasTerms card terms → Ends (o (withPool card before)) (wrote (withPool card after) n) text written
+  pub each : (card : Card) → HasTerms card (terms .at) terms → Ends (o (withPool card before)) (wrote (withPool card after) n) text written

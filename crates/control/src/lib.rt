@@ -1,7 +1,7 @@
 // Multicast Replication Control (144) about port p, which passed the table: its commands in order.
 use card::Card;
 use card::Effect;
-use commands::Terms;
+use card::Terms;
 use fields::COMMAND;
 use header::Header;
 use ports::Change;
@@ -25,7 +25,7 @@ pub fn control(
     accounting: &mut [u8; 512],
     ids: &[u8; 4096],
     channels: &[u32; 2816],
-    terms: card::Terms,
+    terms: Terms,
     h: Header,
     tlvs: &[u8],
     reply: &mut [u8],
@@ -33,18 +33,10 @@ pub fn control(
     requires { ⌜ (4608 ≤ length (now reply)) × (terms .at < 64) × (length (now tlvs) ≤ 4096) × Whole (poolOf (now owner) (now channel) (now charged) (now accounting)) ⌝ }
     ensures { λ r. ⌜ ComesTo (λ card. controlled (now (ids .entry)) (now (channels .entry)) card h (terms .at) (now (tlvs .entry))) (terms .at) terms (poolOf (now (owner .entry)) (now (channel .entry)) (now (charged .entry)) (now (accounting .entry))) (poolOf (now (owner .exit)) (now (channel .exit)) (now (charged .exit)) (now (accounting .exit))) r (now (reply .entry)) (now (reply .exit)) ⌝ }
 {
-    let at = terms.at;
-    let p = at as u8;
-    let x = terms.x;
-    let asked = Terms {
-        port: p,
-        channel_count: terms.channel_count,
-        delegation: x.delegation,
-        add_cac: terms.add_cac,
-    };
+    let p = terms.at as u8;
     let n = run_all(
         channels,
-        asked,
+        terms,
         h,
         circuits::id_at(ids, p),
         tlvs,
@@ -70,8 +62,8 @@ fn run_all(
     accounting: &mut [u8; 512],
     reply: &mut [u8],
 ) -> usize
-    requires { ⌜ (4608 ≤ length (now reply)) × (length (now id) < 64) × (length (now tlvs) ≤ 4096) × Whole (poolOf (now owner) (now channel) (now charged) (now accounting)) ⌝ }
-    ensures { λ n. ⌜ Controls (λ card. commandsFrom (now (channels .entry)) h (now (id .entry)) (terms .port) card 1 (commandsIn (now (tlvs .entry)))) terms (poolOf (now (owner .entry)) (now (channel .entry)) (now (charged .entry)) (now (accounting .entry))) (poolOf (now (owner .exit)) (now (channel .exit)) (now (charged .exit)) (now (accounting .exit))) n (now (reply .entry)) (now (reply .exit)) ⌝ }
+    requires { ⌜ (4608 ≤ length (now reply)) × (length (now id) < 64) × (length (now tlvs) ≤ 4096) × (terms .at < 256) × Whole (poolOf (now owner) (now channel) (now charged) (now accounting)) ⌝ }
+    ensures { λ n. ⌜ Controls (λ card. commandsFrom (now (channels .entry)) h (now (id .entry)) (terms .at) card 1 (commandsIn (now (tlvs .entry)))) terms (poolOf (now (owner .entry)) (now (channel .entry)) (now (charged .entry)) (now (accounting .entry))) (poolOf (now (owner .exit)) (now (channel .exit)) (now (charged .exit)) (now (accounting .exit))) n (now (reply .entry)) (now (reply .exit)) ⌝ }
 {
     let mut seq: u32 = 1;
     let mut at: usize = 0;

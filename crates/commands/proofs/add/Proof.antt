@@ -17,8 +17,8 @@ unfolding addRow
 returns c =
     let s = c .before .before .before in
     let a = s .args in
-    runs-by 0x66 refl (s .pre)
-    (λ card h. ap (addRow (a .channels .now) (withPool card (maps s)) (a .terms .port) (a .value)) (sym (listed h (a .channels .now) (a .f) (c .before .before .channel-of .ensures) (c .enum-told .given .1))))
+    runs-by 0x66 refl (s .pre .1)
+    (λ card h. ap (addRow (a .channels .now) (withPool card (maps s)) (a .terms .at) (a .value)) (sym (listed h (a .channels .now) (a .f) (c .before .before .channel-of .ensures) (c .enum-told .given .1))))
 
 returns-2 : tie.Need-returns-2
 returns-2 c =
@@ -26,7 +26,7 @@ returns-2 c =
     let s = d .before .before .before in
     let a = s .args in
     runs-as (c .add-channel .ensures)
-    (λ card h. ap (addRow (a .channels .now) (withPool card (maps s)) (a .terms .port) (a .value)) (sym (listed h (a .channels .now) (a .f) (d .before .before .channel-of .ensures) (d .found .given .1))))
+    (λ card h. ap (addRow (a .channels .now) (withPool card (maps s)) (a .terms .at) (a .value)) (sym (listed h (a .channels .now) (a .f) (d .before .before .channel-of .ensures) (d .found .given .1))))
 
 pub add-spec : {M : Type 1} → statement M
 add-spec =

@@ -19,17 +19,17 @@ maps c charged accounting = poolOf (c .args .owner .now) (c .args .channel .now)
 
 returns : tie.Need-returns
 returns c charged accounting w =
-    let a = c .before .before .before .args in
-    let p : ℕ = a .terms .port in
-    let pool : Pool = maps (c .before .before .before) charged accounting in
+    let a = c .before .before .before .before .args in
+    let p : ℕ = a .terms .at in
+    let pool : Pool = maps (c .before .before .before .before) charged accounting in
     runs-by 0 (ap (withOwner pool) (c .before .end-in .ensures .1) ∙ ended-in pool p (isRow (a .channels .now) (a .f))) (whole-ended pool w p (isRow (a .channels .now) (a .f)))
     (λ card h. delete-active (a .channels .now) (withPool card pool) p (a .f) (sym (c .before .end-in .ensures .0) ∙ c .if1 .taken))
 
 returns-2 : tie.Need-returns-2
 returns-2 c charged accounting w =
-    let a = c .before .before .before .args in
-    let p : ℕ = a .terms .port in
-    let pool : Pool = maps (c .before .before .before) charged accounting in
+    let a = c .before .before .before .before .args in
+    let p : ℕ = a .terms .at in
+    let pool : Pool = maps (c .before .before .before .before) charged accounting in
     let idle = sym (c .before .end-in .ensures .0) ∙ c .if1 .left in
     runs-by 0x66 (ap (withOwner pool) (c .before .end-in .ensures .1 ∙ swept-none (a .owner .now) free (a .owner .now) (a .channel .now) p (isRow (a .channels .now) (a .f)) (w .owner) idle)) w
     (λ card h. delete-idle (a .channels .now) (withPool card pool) p (a .f) idle)
@@ -38,6 +38,7 @@ pub delete-spec : {M : Type 1} → statement M
 delete-spec =
     tie.close
     (tie.spec
+    (λ c. search needs)
     (λ c κs. search needs)
     returns
     returns-2)

@@ -25,25 +25,25 @@ returns : tie.Need-returns
 unfolding obeyed
 returns c =
     let a = c .before .before .before .before .args in
-    runs-by 0x64 refl (c .before .before .before .before .pre)
-    (λ card h. ap (obeyed (a .channels .now) (withPool card (maps (c .before .before .before .before))) (a .terms .port)) (order-64 (a .c .now) (c .before .before .command-in .ensures) (sym (c .before .shape-ok .ensures) ∙ not-true _ (c .if1 .taken))))
+    runs-by 0x64 refl (c .before .before .before .before .pre .1)
+    (λ card h. ap (obeyed (a .channels .now) (withPool card (maps (c .before .before .before .before))) (a .terms .at)) (order-64 (a .c .now) (c .before .before .command-in .ensures) (sym (c .before .shape-ok .ensures) ∙ not-true _ (c .if1 .taken))))
 
 end-all-in-requires : tie.Need-end-all-in-requires
-end-all-in-requires c κs = c .before .before .before .before .before .before .before .pre .owner
+end-all-in-requires c κs = c .before .before .before .before .before .before .before .before .pre .1 .owner
 
 returns-2 : tie.Need-returns-2
 unfolding obeyed
 returns-2 c =
-    let a = c .before .before .before .before .before .before .before .before .args in
-    let pool : Pool = maps (c .before .before .before .before .before .before .before .before) in
-    runs-by 0 (ap (withOwner pool) (c .end-all-in .ensures) ∙ ended-all-in pool (a .terms .port)) (whole-ended pool (c .before .before .before .before .before .before .before .before .pre) (a .terms .port) (λ j. true))
-    (λ card h. ap (obeyed (a .channels .now) (withPool card pool) (a .terms .port)) (order-all (a .c .now) (c .before .before .before .before .before .before .command-in .ensures) (ok (c .before .before .before .before)) (c .before .before .if2 .taken)))
+    let a = c .before .before .before .before .before .before .before .before .before .args in
+    let pool : Pool = maps (c .before .before .before .before .before .before .before .before .before) in
+    runs-by 0 (ap (withOwner pool) (c .end-all-in .ensures) ∙ ended-all-in pool (a .terms .at)) (whole-ended pool (c .before .before .before .before .before .before .before .before .before .pre .1) (a .terms .at) (λ j. true))
+    (λ card h. ap (obeyed (a .channels .now) (withPool card pool) (a .terms .at)) (order-all (a .c .now) (c .before .before .before .before .before .before .before .command-in .ensures) (ok (c .before .before .before .before .before)) (c .before .before .before .if2 .taken)))
 
 returns-3 : tie.Need-returns-3
 returns-3 c =
     let a = c .before .before .before .before .before .before .before .before .before .before .before .before .args in
     runs-as (c .run-flow .ensures)
-    (λ card h. ap (obeyed (a .channels .now) (withPool card (maps (c .before .before .before .before .before .before .before .before .before .before .before .before))) (a .terms .port)) (order-flow (a .c .now) (c .before .before .before .before .before .before .before .before .before .before .command-in .ensures) (ok (c .before .before .before .before .before .before .before .before)) (c .before .before .before .before .before .before .if2 .left) (c .before .before .before .before .before .flow-content .ensures)))
+    (λ card h. ap (obeyed (a .channels .now) (withPool card (maps (c .before .before .before .before .before .before .before .before .before .before .before .before))) (a .terms .at)) (order-flow (a .c .now) (c .before .before .before .before .before .before .before .before .before .before .command-in .ensures) (ok (c .before .before .before .before .before .before .before .before)) (c .before .before .before .before .before .before .if2 .left) (c .before .before .before .before .before .flow-content .ensures)))
 
 pub run-command-spec : {M : Type 1} → statement M
 run-command-spec =
@@ -52,6 +52,7 @@ run-command-spec =
     (λ c κs. search needs)
     (λ c κs. search needs)
     returns
+    (λ c. search needs)
     end-all-in-requires
     returns-2
     (λ c κs. search needs)

@@ -27,8 +27,8 @@ returns : tie.Need-returns
 unfolding obeyed
 returns c =
     let a = c .before .before .before .args in
-    runs-by 0x55 refl (c .before .before .before .pre)
-    (λ card h. ap (obeyed (a .channels .now) (withPool card (maps (c .before .before .before))) (a .terms .port)) (order-55 (a .command .code) (a .command .accounting) (a .c .now) (sym (c .before .flow-formed .ensures) ∙ not-true _ (c .if1 .taken))))
+    runs-by 0x55 refl (c .before .before .before .pre .1)
+    (λ card h. ap (obeyed (a .channels .now) (withPool card (maps (c .before .before .before))) (a .terms .at)) (order-55 (a .command .code) (a .command .accounting) (a .c .now) (sym (c .before .flow-formed .ensures) ∙ not-true _ (c .if1 .taken))))
 
 flow-named-requires : tie.Need-flow-named-requires
 flow-named-requires c κs = formed c
@@ -37,8 +37,8 @@ returns-2 : tie.Need-returns-2
 unfolding obeyed
 returns-2 c =
     let a = c .before .before .before .before .before .before .args in
-    runs-by 0x65 refl (c .before .before .before .before .before .before .pre)
-    (λ card h. ap (obeyed (a .channels .now) (withPool card (maps (c .before .before .before .before .before .before))) (a .terms .port)) (order-65 (a .command .code) (a .command .accounting) (a .c .now) (formed (c .before .before .before)) (c .before .before .flow-named .ensures) (sym (c .before .good-flow .ensures) ∙ not-true _ (c .if2 .taken))))
+    runs-by 0x65 refl (c .before .before .before .before .before .before .pre .1)
+    (λ card h. ap (obeyed (a .channels .now) (withPool card (maps (c .before .before .before .before .before .before))) (a .terms .at)) (order-65 (a .command .code) (a .command .accounting) (a .c .now) (formed (c .before .before .before)) (c .before .before .flow-named .ensures) (sym (c .before .good-flow .ensures) ∙ not-true _ (c .if2 .taken))))
 
 returns-3 : tie.Need-returns-3
 unfolding obeyed
@@ -48,10 +48,10 @@ returns-3 c =
     let s = d .before .before .before in
     let a = s .args in
     runs-as (c .add .ensures)
-    (λ card h. ap (obeyed (a .channels .now) (withPool card (maps s)) (a .terms .port)) (order-add (a .command .code) (a .command .accounting) (a .c .now) (formed d) (e .before .before .flow-named .ensures) (sound e) (c .before .before .before .before .before .if3 .taken)))
+    (λ card h. ap (obeyed (a .channels .now) (withPool card (maps s)) (a .terms .at)) (order-add (a .command .code) (a .command .accounting) (a .c .now) (formed d) (e .before .before .flow-named .ensures) (sound e) (c .before .before .before .before .before .if3 .taken)))
 
 delete-requires : tie.Need-delete-requires
-delete-requires c κs = c .before .before .before .before .before .before .before .before .before .before .pre .owner
+delete-requires c κs = let q = c .before .before .before .before .before .before .before .before .before .before .pre in (q .0, q .1 .owner)
 
 returns-4 : tie.Need-returns-4
 unfolding obeyed
@@ -60,8 +60,8 @@ returns-4 c =
     let d = e .before .before .before in
     let s = d .before .before .before in
     let a = s .args in
-    runs-as (c .delete .ensures (a .charged .now) (a .accounting .now) (s .pre))
-    (λ card h. ap (obeyed (a .channels .now) (withPool card (maps s)) (a .terms .port)) (order-delete (a .command .code) (a .command .accounting) (a .c .now) (formed d) (e .before .before .flow-named .ensures) (sound e) (c .before .before .before .if3 .left)))
+    runs-as (c .delete .ensures (a .charged .now) (a .accounting .now) (s .pre .1))
+    (λ card h. ap (obeyed (a .channels .now) (withPool card (maps s)) (a .terms .at)) (order-delete (a .command .code) (a .command .accounting) (a .c .now) (formed d) (e .before .before .flow-named .ensures) (sound e) (c .before .before .before .if3 .left)))
 
 pub run-flow-spec : {M : Type 1} → statement M
 run-flow-spec =

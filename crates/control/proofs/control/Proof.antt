@@ -10,7 +10,7 @@ use Rattle.control.proofs.control.Statement.{statement}
 use Rattle.control.proofs.control.Tie as tie
 
 run-all-requires : tie.Need-run-all-requires
-run-all-requires c κs = (c .before .before .before .before .before .before .before .before .before .pre .0, omega (arith, id-short (c .before .before .before .before .before .before .before .before .before .args .ids .now) (c .before .before .before .before .before .before .before .before .before .args .terms .at), ap length (c .before .before .before .before .before .id-at .ensures)), c .before .before .before .before .before .before .before .before .before .pre .2, c .before .before .before .before .before .before .before .before .before .pre .3)
+run-all-requires c κs = let q = c .before .before .before .before .before .before .before .before .before .pre in (q .0, omega (arith, id-short (c .before .before .before .before .before .before .before .before .before .args .ids .now) (c .before .before .before .before .before .before .before .before .before .args .terms .at), ap length (c .before .before .before .before .before .id-at .ensures)), q .2, omega (arith, q .1), q .3)
 
 returns : tie.Need-returns
 returns c = comes-as (comes-controlled (c .before .before .before .run-all .ensures) (c .changed .ensures)) (λ card t. controlled-by (c .before .before .before .before .before .before .before .before .before .before .before .before .before .args .ids .now) _ _ _ _ _ (c .before .before .before .before .before .before .before .before .before .id-at .ensures))

@@ -11,8 +11,9 @@ use Rattle.pool.specs.Pool.{poolOf, Whole}
 use Rattle.card.specs.declared.Card.{Card}
 use Rattle.card.specs.Cards.{withPool}
 use Rattle.card.specs.Outcome.{Outcome}
+use Rattle.card.specs.Parts.{HasTerms}
 use Rattle.card.proofs.Ends.{ends-as}
-use Rattle.commands.specs.Commands.{ranOf, ranWith, HasTerms}
+use Rattle.commands.specs.Commands.{ranOf, ranWith}
 use Rattle.commands.proofs.Runs.{runs-kept}
 use Rattle.control.specs.Control.{commandsFrom, commandsIn, wrote}
 use Rattle.control.proofs.Commands.{from-none, from-next, from-fail, commands-end, commands-broken, commands-miss, commands-hit}
@@ -24,7 +25,7 @@ use Rattle.control.proofs.run_all.Tie as tie
 abbrev Inv-loop : tie.InvT-loop
 Inv-loop channels terms h id tlvs owner₀ channel₀ charged₀ accounting₀ reply₀ seq₀ at₀ owner channel charged accounting reply seq at =
     (at ≤ length tlvs) × (seq ≤ 1 + at) × (reply ≡ reply₀) × Whole (poolOf owner channel charged accounting)
-    × ((card : Card) → HasTerms card terms → commandsFrom channels h id (terms .port) (withPool card (poolOf owner₀ channel₀ charged₀ accounting₀)) 1 (commandsIn tlvs) ≡ commandsFrom channels h id (terms .port) (withPool card (poolOf owner channel charged accounting)) seq (commandsIn (drop at tlvs)))
+    × ((card : Card) → HasTerms card (terms .at) terms → commandsFrom channels h id (terms .at) (withPool card (poolOf owner₀ channel₀ charged₀ accounting₀)) 1 (commandsIn tlvs) ≡ commandsFrom channels h id (terms .at) (withPool card (poolOf owner channel charged accounting)) seq (commandsIn (drop at tlvs)))
 
 abbrev μ-loop : tie.MeasureT-loop
 μ-loop channels terms h id tlvs owner₀ channel₀ charged₀ accounting₀ reply₀ seq₀ at₀ owner channel charged accounting reply seq at = length tlvs - at
@@ -35,7 +36,7 @@ maps c = poolOf (c .loop .owner) (c .loop .channel) (c .loop .charged) (c .loop 
 
 -- what the commands left in the message come to
 abbrev run : (c : tie.At-loop Inv-loop μ-loop) → Card → List (List ℕ) → Outcome
-run c card cs = let a = c .before .before .before .before .args in commandsFrom (a .channels .now) (a .h) (a .id .now) (a .terms .port) (withPool card (maps c)) (c .loop .seq) cs
+run c card cs = let a = c .before .before .before .before .args in commandsFrom (a .channels .now) (a .h) (a .id .now) (a .terms .at) (withPool card (maps c)) (c .loop .seq) cs
 
 -- past the match: the TLV lies in the message, and the next place behind it
 fit : (c : tie.After-known-told Inv-loop μ-loop) → (c .before .before .before .before .loop .at + 4 + padded (c .before .next .given .0 .1 .0) ≡ c .before .before .before .step-at .result .next) × (c .before .before .before .step-at .result .next ≤ length (c .before .before .before .before .before .before .before .before .args .tlvs .now))
@@ -46,7 +47,7 @@ hit : (c : tie.Else1 Inv-loop μ-loop) → commandsIn (drop (c .before .before .
 hit c = commands-hit _ _ (c .before .before .before .before .step-at .ensures) (c .before .before .next .given .1) (c .if1 .left)
 
 loop-holds : tie.Need-loop-holds Inv-loop μ-loop
-loop-holds c = (omega arith, omega arith, refl, c .before .before .before .pre .3, λ card t. refl)
+loop-holds c = (omega arith, omega arith, refl, c .before .before .before .pre .4, λ card t. refl)
 
 finish-requires : tie.Need-finish-requires Inv-loop μ-loop
 finish-requires c κs = omega (arith, ap length (c .before .before .before .before .loop .inv .2), c .before .before .before .before .before .before .before .before .pre .0)
@@ -86,15 +87,15 @@ part-c-end : tie.Need-part-c-end Inv-loop μ-loop
 part-c-end c = omega (arith, fit (c .before))
 
 run-command-requires : tie.Need-run-command-requires Inv-loop μ-loop
-run-command-requires c κs = c .before .before .before .before .before .before .before .before .before .before .loop .inv .3
+run-command-requires c κs = (c .before .before .before .before .before .before .before .before .before .before .before .before .before .before .pre .3, c .before .before .before .before .before .before .before .before .before .before .loop .inv .3)
 
 -- the maps behind the command
 abbrev behind : (c : tie.After-run-command Inv-loop μ-loop) → Pool
 behind c = let l = c .run-command .last .1 .1 .1 in poolOf (l .0) (l .1 .0) (l .1 .1 .0) (l .1 .1 .1 .0)
 
 -- what the command comes to
-ran : (c : tie.After-run-command Inv-loop μ-loop) (card : Card) → HasTerms card (c .before .before .before .before .before .before .before .before .before .before .before .before .before .before .before .args .terms)
-    → ranWith card (behind c) (c .run-command .result) ≡ ranOf (c .before .before .before .before .before .before .before .before .before .before .before .before .before .before .before .args .channels .now) (withPool card (maps (c .before .before .before .before .before .before .before .before .before .before .before))) (c .before .before .before .before .before .before .before .before .before .before .before .before .before .before .before .args .terms .port) (take (c .before .before .before .before .before .before .before .before .next .given .0 .1 .0) (drop (c .before .before .before .before .before .before .before .before .before .before .before .loop .at + 4) (c .before .before .before .before .before .before .before .before .before .before .before .before .before .before .before .args .tlvs .now)))
+ran : (c : tie.After-run-command Inv-loop μ-loop) (card : Card) → HasTerms card (c .before .before .before .before .before .before .before .before .before .before .before .before .before .before .before .args .terms .at) (c .before .before .before .before .before .before .before .before .before .before .before .before .before .before .before .args .terms)
+    → ranWith card (behind c) (c .run-command .result) ≡ ranOf (c .before .before .before .before .before .before .before .before .before .before .before .before .before .before .before .args .channels .now) (withPool card (maps (c .before .before .before .before .before .before .before .before .before .before .before))) (c .before .before .before .before .before .before .before .before .before .before .before .before .before .before .before .args .terms .at) (take (c .before .before .before .before .before .before .before .before .next .given .0 .1 .0) (drop (c .before .before .before .before .before .before .before .before .before .before .before .loop .at + 4) (c .before .before .before .before .before .before .before .before .before .before .before .before .before .before .before .args .tlvs .now)))
 ran c card t = rw add-sub-cancel-left at (sym (c .run-command .ensures .each card t))
 
 put-failure-requires : tie.Need-put-failure-requires Inv-loop μ-loop

@@ -325,13 +325,13 @@ module _ {M : Type 1} (𝓤 : URA M) (H : Heap 𝓤) (A : Atoms 𝓤) (W : Given
 
     goes-call : Whole (h .pool) → i < 64 → p ≡ S.portAbout (ids .now) n k (s .now) → Is Tm.the-row (termsAt h i) terms-vals → p < 2 ^ 64 → Is K.the-row k call-vals
         → ent 𝓤 (sep 𝓤 (A .lft (ν₀ ∷ []) fullShare) (sep 𝓤 (A .lft (ν₁ ∷ []) fullShare) (sep 𝓤 (A .lft (ν₂ ∷ []) fullShare) (sep 𝓤 (A .lft (ν₃ ∷ []) fullShare) (sep 𝓤 (A .lft κ₁ q₁) (sep 𝓤 (A .lft κ₂ q₂) (sep 𝓤 (A .lft κ₃ q₃) (sep 𝓤 (A .lft κ₄ q₄) (sep 𝓤 (A .lft κ₅ q₅)
-          (sep 𝓤 Ref₀ (sep 𝓤 (sem 𝓤 H A (MutRef (named 1) (ν₁ ∷ []) (Array u8 512) .own channel (vptr b (o + pool-at + channel-at) ∷ []))) (sep 𝓤 (sem 𝓤 H A (MutRef (named 2) (ν₂ ∷ []) (Array bool 512) .own charged (vptr b (o + pool-at + charged-at) ∷ []))) (sep 𝓤 (sem 𝓤 H A (MutRef (named 3) (ν₃ ∷ []) (Array u8 512) .own accounting (vptr b (o + pool-at + accounting-at) ∷ [])))
-          (sep 𝓤 (sem 𝓤 H A (ShrRef (named 1) κ₁ (Array u8 4096) .own ids (ptr-vals ids))) (sep 𝓤 (sem 𝓤 H A (ShrRef (named 2) κ₂ (Array u32 2816) .own channels (ptr-vals channels))) (sep 𝓤 (sem 𝓤 H A (ShrRef (named 3) κ₃ (Array u32 1536) .own entries (ptr-vals entries))) (sep 𝓤 (sem 𝓤 H A (ShrSlice (named 4) κ₄ u8 .own s (slice-vals s))) (sem 𝓤 H A (MutSlice (named 5) κ₅ u8 .own y (slice-vals y))))))))))))))))))))
+        (sep 𝓤 Ref₀ (sep 𝓤 (sem 𝓤 H A (MutRef (named 1) (ν₁ ∷ []) (Array u8 512) .own channel (vptr b (o + pool-at + channel-at) ∷ []))) (sep 𝓤 (sem 𝓤 H A (MutRef (named 2) (ν₂ ∷ []) (Array bool 512) .own charged (vptr b (o + pool-at + charged-at) ∷ []))) (sep 𝓤 (sem 𝓤 H A (MutRef (named 3) (ν₃ ∷ []) (Array u8 512) .own accounting (vptr b (o + pool-at + accounting-at) ∷ [])))
+        (sep 𝓤 (sem 𝓤 H A (ShrRef (named 1) κ₁ (Array u8 4096) .own ids (ptr-vals ids))) (sep 𝓤 (sem 𝓤 H A (ShrRef (named 2) κ₂ (Array u32 2816) .own channels (ptr-vals channels))) (sep 𝓤 (sem 𝓤 H A (ShrRef (named 3) κ₃ (Array u32 1536) .own entries (ptr-vals entries))) (sep 𝓤 (sem 𝓤 H A (ShrSlice (named 4) κ₄ u8 .own s (slice-vals s))) (sem 𝓤 H A (MutSlice (named 5) κ₅ u8 .own y (slice-vals y))))))))))))))))))))
         (Calling 𝓤 H A at-mem run .pre to-call)
     goes-call whole-is small p-eq t-is p-fits k-is =
         qed W (‵ (flft (ν₀ ∷ []) fullShare) ∷ ‵ (flft (ν₁ ∷ []) fullShare) ∷ ‵ (flft (ν₂ ∷ []) fullShare) ∷ ‵ (flft (ν₃ ∷ []) fullShare) ∷ ‵ (flft κ₁ q₁) ∷ ‵ (flft κ₂ q₂) ∷ ‵ (flft κ₃ q₃) ∷ ‵ (flft κ₄ q₄) ∷ ‵ (flft κ₅ q₅)
-          ∷ ‵ (MutRef (named 0) (ν₀ ∷ []) (Array u8 512) .own owner (vptr b (o + pool-at + 0) ∷ [])) ∷ ‵ (MutRef (named 1) (ν₁ ∷ []) (Array u8 512) .own channel (vptr b (o + pool-at + channel-at) ∷ [])) ∷ ‵ (MutRef (named 2) (ν₂ ∷ []) (Array bool 512) .own charged (vptr b (o + pool-at + charged-at) ∷ [])) ∷ ‵ (MutRef (named 3) (ν₃ ∷ []) (Array u8 512) .own accounting (vptr b (o + pool-at + accounting-at) ∷ []))
-          ∷ ‵ (ShrRef (named 1) κ₁ (Array u8 4096) .own ids (ptr-vals ids)) ∷ ‵ (ShrRef (named 2) κ₂ (Array u32 2816) .own channels (ptr-vals channels)) ∷ ‵ (ShrRef (named 3) κ₃ (Array u32 1536) .own entries (ptr-vals entries)) ∷ ‵ (ShrSlice (named 4) κ₄ u8 .own s (slice-vals s)) ∷ ‵ (MutSlice (named 5) κ₅ u8 .own y (slice-vals y)) ∷ []) ∵
+        ∷ ‵ (MutRef (named 0) (ν₀ ∷ []) (Array u8 512) .own owner (vptr b (o + pool-at + 0) ∷ [])) ∷ ‵ (MutRef (named 1) (ν₁ ∷ []) (Array u8 512) .own channel (vptr b (o + pool-at + channel-at) ∷ [])) ∷ ‵ (MutRef (named 2) (ν₂ ∷ []) (Array bool 512) .own charged (vptr b (o + pool-at + charged-at) ∷ [])) ∷ ‵ (MutRef (named 3) (ν₃ ∷ []) (Array u8 512) .own accounting (vptr b (o + pool-at + accounting-at) ∷ []))
+        ∷ ‵ (ShrRef (named 1) κ₁ (Array u8 4096) .own ids (ptr-vals ids)) ∷ ‵ (ShrRef (named 2) κ₂ (Array u32 2816) .own channels (ptr-vals channels)) ∷ ‵ (ShrRef (named 3) κ₃ (Array u32 1536) .own entries (ptr-vals entries)) ∷ ‵ (ShrSlice (named 4) κ₄ u8 .own s (slice-vals s)) ∷ ‵ (MutSlice (named 5) κ₅ u8 .own y (slice-vals y)) ∷ []) ∵
         says ! (whole-is, small, p-eq) $ nothing ! $ move ! (9 ∷ 0 ∷ []) $ join ! $ move ! (8 ∷ 0 ∷ []) $ join ! $ move ! (7 ∷ 0 ∷ []) $ join ! $ move ! (6 ∷ 0 ∷ []) $ join ! $ move ! (5 ∷ 0 ∷ []) $ join ! $ move ! (4 ∷ 0 ∷ []) $ join ! $ move ! (3 ∷ 0 ∷ []) $ join ! $ move ! (2 ∷ 0 ∷ []) $ join ! $ move ! (1 ∷ 0 ∷ []) $ join ! $ frame ! $
         nothing ! $ move ! (9 ∷ 0 ∷ []) $ fjoin ! $ move ! (8 ∷ 0 ∷ []) $ fjoin ! $
         owned ! K.the-row (Is K.the-row) (LL.makes K.the-type K′.the-plain 𝓤 H A) k _ k-is $ fjoin ! $ owned ! usize (Is usize) (uint-makes 𝓤 H A W w64) p _ (refl, p-fits) $ fjoin ! $
@@ -339,7 +339,7 @@ module _ {M : Type 1} (𝓤 : URA M) (H : Heap 𝓤) (A : Atoms 𝓤) (W : Given
         move ! (7 ∷ 0 ∷ []) $ fjoin ! $ move ! (6 ∷ 0 ∷ []) $ fjoin ! $ move ! (5 ∷ 0 ∷ []) $ fjoin ! $ move ! (4 ∷ 0 ∷ []) $ fjoin ! $ move ! (3 ∷ 0 ∷ []) $ fjoin ! $ move ! (2 ∷ 0 ∷ []) $ fjoin ! $ move ! (1 ∷ 0 ∷ []) $ fjoin ! $ done !
 
   module _ (C : Calls 𝓤 H) (Λ : Loops 𝓤 H) (fm : FmC 𝓤 H (W .laws) C) (finding : Triple 𝓤 (C port-def.name) (Finding 𝓤 H A at-mem run)) (slotting : Triple 𝓤 (C slot-def.name) (Slotting 𝓤 H A at-mem run)) (calling : Triple 𝓤 (C call-def.name) (Calling 𝓤 H A at-mem run)) (updating : Triple 𝓤 (C update-def.name) (Updating a-change changing 𝓤 H A W))
-    (k-is : Is K.the-row k call-vals) (s-is : Is (ShrSlice (named 4) κ₄ u8) s (slice-vals s)) (y-is : Is (MutSlice (named 5) κ₅ u8) y (slice-vals y)) where
+      (k-is : Is K.the-row k call-vals) (s-is : Is (ShrSlice (named 4) κ₄ u8) s (slice-vals s)) (y-is : Is (MutSlice (named 5) κ₅ u8) y (slice-vals y)) where
     walk : ent 𝓤 (onEntry 𝓤 H A f.signature (κ, κs) (q, qs) (lent-card, rest) (vptr b o ∷ [], rest-at)) (WpFn 𝓤 H C Λ code.function passed Post)
     walk =
         let call-typed = LL.lawful K.the-type K′.the-laws 𝓤 H A W .typed k _ k-is .0 in
