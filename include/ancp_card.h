@@ -108,7 +108,8 @@ typedef struct { ancp_card card; uint8_t number; } ancp_started;
 ancp_started ancp_card_started(const uint8_t *ids, size_t ports, const uint32_t *channels, size_t channel_count, const uint32_t *entries,
                                size_t entry_count, bool white_cac, bool add_cac, uint32_t first);
 
-/* Any call: *card and the start of `reply` are written, nothing else. Nothing of the card is copied but one port's record and the counts. */
+/* Any call: *card and the start of `reply` are written, nothing else. Nothing of the card is copied but one port's record and the
+   few numbers beside the maps (counts, switches, counter). */
 ancp_answer ancp_card_call(ancp_card *card, const uint8_t *ids, const uint32_t *channels, const uint32_t *entries, ancp_call call, const uint8_t *octets,
                            size_t n, uint8_t *reply, size_t room);
 
