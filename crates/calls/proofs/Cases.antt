@@ -1,19 +1,26 @@
--- A host's call by its number, and the port that it is about. Assumes nothing.
-use mathlib.Core.Path.{_≡_, sym, ap, subst}
+-- A host's call by its number, the port that it is about, and a call by value.
+--     host-port, message-port    the port that a call is about
+--     comes-for                  a promise for that port
+--     of-host, of-message        the call of a number below 6, and of any other
+--     of-number                  the host's call of number n
+--     gives                      a call by value, from the call on the core's parts
+-- Assumes nothing.
+use mathlib.Core.Path.{_≡_, sym, ap, subst, _∙_}
 use mathlib.Core.List.{List}
-use Prim.Native.Nat.{ℕ, _+_, _<_, _≤_}
-use native.Mathlib.Omega.{arith}
-use borrow.Author.Tests.{ne-eqb, lt-ltb, le-ltb}
+use Prim.Native.Nat.{ℕ, _<_, _≤_}
+use borrow.Author.Tests.{lt-ltb, le-ltb}
 use Rattle.pool.specs.declared.Pool.{Pool}
-use Rattle.card.specs.declared.Card.{Card}
+use Rattle.card.specs.declared.Core.{Core}
+use Rattle.card.specs.declared.Returned.{Returned}
 use Rattle.card.specs.declared.Terms.{Terms}
 use Rattle.card.specs.declared.Effect.{Effect}
-use Rattle.card.specs.Outcome.{Outcome}
-use Rattle.card.specs.Parts.{ComesTo}
+use Rattle.card.specs.Cards.{Card, Areas, coreOf, cardOf}
+use Rattle.card.specs.Outcome.{Outcome, Done}
+use Rattle.card.specs.Parts.{termsAt, doneWith, returnedOf, AreasComeTo}
 use Rattle.messages.specs.Messages.{receivedOf, namedIn}
 use Rattle.demand3.specs.Calls.{outcomeOf}
 use Rattle.calls.specs.declared.HostCall.{HostCall}
-use Rattle.calls.specs.Calls.{tablesOf, numbered, portAbout}
+use Rattle.calls.specs.Calls.{tablesOf, hosted, callOf, portAbout, CallGives}
 
 -- p is the port that the call is about
 module _ (ids : List ℕ) (count : ℕ) (c : HostCall) (octets : List ℕ) {p : ℕ} (e : p ≡ portAbout ids count c octets) where
@@ -25,31 +32,42 @@ module _ (ids : List ℕ) (count : ℕ) (c : HostCall) (octets : List ℕ) {p : 
   unfolding portAbout
   message-port l = rw (le-ltb (c .which) 6 l) at e
 
-pub comes-for : {o : Card → Outcome} {p q : ℕ} {terms : Terms} {before after : Pool} {r : Effect} {text written : List ℕ} → p ≡ q → ComesTo o q terms before after r text written → ComesTo o p terms before after r text written
-comes-for {o} {terms = terms} {before} {after} {r} {text} {written} e g = subst (λ (n : ℕ). ComesTo o n terms before after r text written) (sym e) g
+pub comes-for : {o : Card → Outcome} {p q : ℕ} {terms : Terms} {before after : Pool} {areas left : Areas} {r : Effect} {text written : List ℕ} → p ≡ q
+    → AreasComeTo o q terms before after areas left r text written → AreasComeTo o p terms before after areas left r text written
+comes-for {o} {terms = terms} {before} {after} {areas} {left} {r} {text} {written} e g =
+    subst (λ (n : ℕ). AreasComeTo o n terms before after areas left r text written) (sym e) g
 
-module _ (c : HostCall) where
-  abbrev Other : ℕ → Type 0
-  Other n = c .which ≡ n → ⊥
-
-  above : (m : ℕ) → m ≤ c .which → Other m → m + 1 ≤ c .which
-  above m l h = omega (arith, h)
-
-  -- the last of the six
-  pub fifth : c .which < 6 → Other 0 → Other 1 → Other 2 → Other 3 → Other 4 → c .which ≡ 5
-  fifth l h₀ h₁ h₂ h₃ h₄ = let five = above 4 (above 3 (above 2 (above 1 (above 0 (omega arith) h₀) h₁) h₂) h₃) h₄ in last five
-    where
-      last : 5 ≤ c .which → c .which ≡ 5
-      last five = omega arith
-
-module _ (card : Card) (ids channels entries : List ℕ) (c : HostCall) (octets : List ℕ) (room : ℕ) where
+module _ (card : Card) (ids channels entries : List ℕ) (c : HostCall) (room : ℕ) where
   abbrev comes : ℕ → Outcome
-  comes n = outcomeOf (tablesOf card ids channels entries) card (numbered n c octets room)
+  comes n = outcomeOf (tablesOf card ids channels entries) card (hosted n c room)
 
   pub of-number : (n : ℕ) → c .which ≡ n → comes n ≡ comes (c .which)
   of-number n h = ap comes (sym h)
 
-  pub of-message : 6 ≤ c .which → receivedOf ids channels card octets room ≡ comes (c .which)
-  unfolding outcomeOf numbered
-  of-message l =
-      rw (ne-eqb (c .which) 0 (λ e. omega (arith, e)), ne-eqb (c .which) 1 (λ e. omega (arith, e)), ne-eqb (c .which) 2 (λ e. omega (arith, e)), ne-eqb (c .which) 3 (λ e. omega (arith, e)), ne-eqb (c .which) 4 (λ e. omega (arith, e)), ne-eqb (c .which) 5 (λ e. omega (arith, e)))
+  module _ (octets : List ℕ) where
+    abbrev called : Outcome
+    called = outcomeOf (tablesOf card ids channels entries) card (callOf c octets room)
+
+    pub of-host : c .which < 6 → comes (c .which) ≡ called
+    unfolding callOf
+    of-host l = rw (lt-ltb (c .which) 6 l)
+
+    pub of-message : 6 ≤ c .which → receivedOf ids channels card octets room ≡ called
+    unfolding outcomeOf callOf
+    of-message l = rw (le-ltb (c .which) 6 l)
+
+-- a call by value: its terms are read off the core, and what it gave is put into the core
+pub gives : {o : Card → Outcome} {p : ℕ} {terms : Terms} {after : Pool} {areas left : Areas} {r : Effect} {text written : List ℕ} (core : Core)
+    → AreasComeTo o p terms (core .pool) after areas left r text written → {at : ℕ} → terms ≡ termsAt (cardOf core areas) at → (p < 64 → at ≡ p)
+    → {d : Returned} → d ≡ returnedOf (doneWith (cardOf core left) at after r) → CallGives (o (cardOf core areas)) d left text written
+gives {o} {p} {terms} {after} {areas} {left} {r} {text} {written} core g e k f =
+    let there = ap (λ (t : Terms). t .at) e in
+    let ends = g .each (cardOf core areas) (record { same = ap (termsAt (cardOf core areas)) there ∙ sym e; place = λ l. there ∙ k l }) in
+    let same = f ∙ ap (λ (i : ℕ). returnedOf (doneWith (cardOf core left) i after r)) (sym there) in
+    record {
+      core = ap (λ (c : Returned). c .core) same ∙ ap (λ (d : Done). coreOf (d .card)) (ends .gives);
+      number = ap (λ (c : Returned). c .number) same ∙ ap (λ (d : Done). d .number) (ends .gives);
+      size = ap (λ (c : Returned). c .length) same ∙ ap (λ (d : Done). d .length) (ends .gives);
+      kept = ap (λ (d : Done). d .card .areas) (ends .gives);
+      text = ends .text;
+    }

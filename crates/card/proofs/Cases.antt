@@ -10,8 +10,7 @@ use Rattle.flows.specs.Flows.{goodFlow}
 use Rattle.ports.specs.declared.Change.the-variants.{BroughtUp, TakenDown, Delegated}
 use Rattle.ports.specs.Ports.{changedBy}
 use Rattle.pool.specs.Pool.{hasFlow, committedOf, endedFlow, endedAll}
-use Rattle.card.specs.declared.Card.{Card}
-use Rattle.card.specs.Cards.{hasPort, portAt, withPool}
+use Rattle.card.specs.Cards.{Card, hasPort, portAt, withPool}
 use Rattle.card.specs.Outcome.{Outcome, keeps, becomes}
 use Rattle.card.specs.Calls.{portUpOf, portDownOf, setDelegationOf, leaveFlow, leaveOf}
 use Rattle.card.specs.Parts.{changedAt}

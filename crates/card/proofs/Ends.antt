@@ -4,9 +4,8 @@ use mathlib.Core.List.{List}
 use Prim.Native.Nat.{ℕ}
 use Rattle.octets.specs.Writing.{Wrote}
 use Rattle.octets.proofs.Writing.{over-none}
-use Rattle.card.specs.declared.Card.{Card}
-use Rattle.card.specs.declared.Done.{Done}
-use Rattle.card.specs.Outcome.{Outcome, keeps, writes, doneOf, Ends}
+use Rattle.card.specs.Cards.{Card}
+use Rattle.card.specs.Outcome.{Done, Outcome, keeps, writes, doneOf, Ends}
 
 -- what another call came to
 pub ends-as : {o q : Outcome} {r : Done} {before after : List ℕ} → Ends q r before after → q ≡ o → Ends o r before after

@@ -7,8 +7,7 @@ use Rattle.flows.specs.declared.Flow.{Flow}
 use Rattle.flows.specs.Flows.{goodFlow}
 use Rattle.ports.specs.Ports.{broughtUp, takenDown, delegated}
 use Rattle.pool.specs.Pool.{hasFlow, committedOf, endedFlow, endedAll}
-use Rattle.card.specs.declared.Card.{Card}
-use Rattle.card.specs.Cards.{hasPort, portAt, withPort, withPool}
+use Rattle.card.specs.Cards.{Card, hasPort, portAt, withPort, withPool}
 use Rattle.card.specs.Outcome.{Outcome, keeps, becomes}
 
 -- Up: 7

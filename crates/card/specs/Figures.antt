@@ -4,8 +4,7 @@ use Prim.Native.Nat.{ℕ}
 use mathlib.Core.Bool.{Bool, false, cond}
 use mathlib.Core.List.{List}
 use Rattle.pool.specs.Pool.{committedOf}
-use Rattle.card.specs.declared.Card.{Card}
-use Rattle.card.specs.Cards.{hasPort, portAt}
+use Rattle.card.specs.Cards.{Card, hasPort, portAt}
 
 unfoldable pub upOf : Card → ℕ → Bool
 upOf card p = cond (hasPort card p) (portAt card p .up) false

@@ -5,8 +5,7 @@ use mathlib.Core.Path.{_≡_}
 use mathlib.Core.List.{List, []}
 use lib.ListN.{length}
 use Rattle.octets.specs.Writing.{over}
-use Rattle.card.specs.declared.Card.{Card}
-use Rattle.card.specs.declared.Done.{Done}
+use Rattle.card.specs.Cards.{Card}
 
 pub record Outcome : Type 0 where
   pub card : Card
@@ -25,7 +24,12 @@ becomes card = record { card = card; number = 0; reply = [] }
 abbrev pub writes : Card → List ℕ → Outcome
 writes card w = record { card = card; number = 0; reply = w }
 
--- what a function that comes to an outcome returns
+-- what a call leaves and answers: the card, the number and how many octets are written
+pub record Done : Type 0 where
+  pub card : Card
+  pub number : ℕ
+  pub length : ℕ
+
 abbrev pub doneOf : Outcome → Done
 doneOf o = record { card = o .card; number = o .number; length = length (o .reply) }
 

@@ -6,26 +6,15 @@ use mathlib.Core.List.{List}
 use Rattle.ports.specs.declared.Change.{Change}
 use Rattle.ports.specs.Ports.{changedBy}
 use Rattle.pool.specs.declared.Pool.{Pool}
-use Rattle.card.specs.declared.Card.{Card}
-use Rattle.card.specs.declared.Done.{Done}
 use Rattle.card.specs.declared.Terms.{Terms}
 use Rattle.card.specs.declared.Effect.{Effect}
-use Rattle.card.specs.Cards.{portAt, withPort, withPool, withCounter}
-use Rattle.card.specs.Outcome.{Outcome, Ends}
+use Rattle.card.specs.declared.Returned.{Returned}
+use Rattle.card.specs.Cards.{Card, Areas, coreOf, portAt, withPort, withPool, withHead, withAreas}
+use Rattle.card.specs.Outcome.{Outcome, Done, Ends}
 
 -- what a call on the port at this place of the table asks of the card besides the pool's maps
 abbrev pub termsAt : Card → ℕ → Terms
-termsAt card at =
-    record {
-      at = at;
-      «port_count» = card .«port_count»;
-      «channel_count» = card .«channel_count»;
-      «entry_count» = card .«entry_count»;
-      «white_cac» = card .«white_cac»;
-      «add_cac» = card .«add_cac»;
-      counter = card .counter;
-      x = portAt card at;
-    }
+termsAt card at = record { at = at; head = card .head; x = portAt card at }
 
 -- these are the card's terms, and the place is port p's where p is below 64
 pub record HasTerms (card : Card) (p : ℕ) (terms : Terms) : Type 0 where
@@ -40,12 +29,20 @@ changedAt card at c = withPort card at (changedBy c (portAt card at))
 abbrev pub doneWith : Card → ℕ → Pool → Effect → Done
 doneWith card at pool r =
     record {
-      card = withCounter (changedAt (withPool card pool) at (r .change)) (r .counter);
+      card = withHead (changedAt (withPool card pool) at (r .change)) (r .head);
       number = r .number;
       length = r .length;
     }
+
+-- what of it the host keeps beside the words
+abbrev pub returnedOf : Done → Returned
+returnedOf d = record { core = coreOf (d .card); number = d .number; length = d .length }
 
 -- a function that was lent the maps `before` and left them as `after`, that was lent a buffer with the octets `text` and left it with
 -- `written`, and gave r: on every card with these terms and maps that is what `o` comes to
 pub record ComesTo (o : Card → Outcome) (p : ℕ) (terms : Terms) (before after : Pool) (r : Effect) (text written : List ℕ) : Type 0 where
   pub each : (card : Card) → HasTerms card p terms → Ends (o (withPool card before)) (doneWith card (terms .at) after r) text written
+
+-- the same of a function that was lent areas too, and left them as `left`
+pub record AreasComeTo (o : Card → Outcome) (p : ℕ) (terms : Terms) (before after : Pool) (areas left : Areas) (r : Effect) (text written : List ℕ) : Type 0 where
+  pub each : (card : Card) → HasTerms card p terms → Ends (o (withAreas (withPool card before) areas)) (doneWith (withAreas card left) (terms .at) after r) text written

@@ -1,4 +1,4 @@
-// The card: start; port up, port down, set delegation and leave, each on the card by value and on its parts; what a host may read.
+// The card: start; port up, port down, set delegation and leave, each on its parts; what a host may read.
 use flows::Flow;
 use pool::Pool;
 use ports::Change;
@@ -10,18 +10,15 @@ ghost use mathlib.Core.List.{List};
 ghost use Prim.Native.Nat.{ℕ, _<_};
 ghost use lib.ListN.{length};
 ghost use Rattle.pool.specs.Pool.{extrasOf, poolOf, withOwner};
-ghost use Rattle.card.specs.Cards.{isPort};
-ghost use Rattle.card.specs.Outcome.{doneOf};
+ghost use Rattle.card.specs.Cards.{Areas, noAreas, isPort, cardOf};
 ghost use Rattle.card.specs.Calls.{portUpOf, portDownOf, setDelegationOf, leaveOf};
-ghost use Rattle.card.specs.Parts.{termsAt, doneWith, ComesTo};
-ghost use Rattle.card.specs.Start.{freshCard, firstOk, startOf};
+ghost use Rattle.card.specs.Parts.{termsAt, doneWith, returnedOf, ComesTo};
+ghost use Rattle.card.specs.Start.{freshCore, firstOk, startOf, StartGives};
 ghost use Rattle.card.specs.Figures.{upOf, delegationOf, committedAt};
 
-// What the calls change; the start's tables are lent with each call that needs them.
+// What a call asks of the card that is neither a port's nor a record's.
 #[repr(C)]
-pub struct Card {
-    pub ports: [Port; 64],
-    pub pool: Pool,
+pub struct CardHead {
     pub counter: Counter,
     pub port_count: usize,
     pub channel_count: usize,
@@ -30,10 +27,18 @@ pub struct Card {
     pub add_cac: bool,
 }
 
+// What the host keeps for the card beside the words that it lends; the start's tables are lent with each call that needs them.
+#[repr(C)]
+pub struct Core {
+    pub ports: [Port; 64],
+    pub pool: Pool,
+    pub head: CardHead,
+}
+
 // What comes back from a call: the number of 01's table, and how many octets of reply are written.
 #[repr(C)]
-pub struct Done {
-    pub card: Card,
+pub struct Returned {
+    pub core: Core,
     pub number: u8,
     pub length: usize,
 }
@@ -42,28 +47,23 @@ pub struct Done {
 #[repr(C)]
 pub struct Terms {
     pub at: usize,
-    pub port_count: usize,
-    pub channel_count: usize,
-    pub entry_count: usize,
-    pub white_cac: bool,
-    pub add_cac: bool,
-    pub counter: Counter,
+    pub head: CardHead,
     pub x: Port,
 }
 
-// What a call on lent maps gives: the number of 01's table, how many octets of reply are written, the counter behind it, and what becomes of
+// What a call on lent maps gives: the number of 01's table, how many octets of reply are written, the head behind it, and what becomes of
 // the port's record.
 #[repr(C)]
 pub struct Effect {
     pub number: u8,
     pub length: usize,
-    pub counter: Counter,
+    pub head: CardHead,
     pub change: Change,
 }
 
 #[repr(C)]
-pub struct Started {
-    pub card: Card,
+pub struct Fresh {
+    pub core: Core,
     pub number: u8,
 }
 
@@ -77,8 +77,8 @@ pub fn start(
     white_cac: bool,
     add_cac: bool,
     first: u32,
-) -> Started
-    ensures { λ r. ⌜ r ≡ startOf (now (ids .entry)) «port_count» (now (channels .entry)) «channel_count» (now (entries .entry)) «entry_count» «white_cac» «add_cac» first ⌝ }
+) -> Fresh
+    ensures { λ r. ⌜ StartGives (startOf (now (ids .entry)) «port_count» (now (channels .entry)) «channel_count» (now (entries .entry)) «entry_count» «white_cac» «add_cac» first) r noAreas noAreas ⌝ }
 {
     if !tables::tables_ok(
         ids,
@@ -88,19 +88,19 @@ pub fn start(
         entries,
         entry_count,
     ) {
-        return Started {
-            card: fresh_card(0, 0, 0, false, false, 1),
+        return Fresh {
+            core: fresh_core(0, 0, 0, false, false, 1),
             number: 14,
         };
     }
     if !first_ok(first) {
-        return Started {
-            card: fresh_card(0, 0, 0, false, false, 1),
+        return Fresh {
+            core: fresh_core(0, 0, 0, false, false, 1),
             number: 14,
         };
     }
-    Started {
-        card: fresh_card(
+    Fresh {
+        core: fresh_core(
             port_count,
             channel_count,
             entry_count,
@@ -112,26 +112,30 @@ pub fn start(
     }
 }
 
-fn fresh_card(
+fn fresh_core(
     port_count: usize,
     channel_count: usize,
     entry_count: usize,
     white_cac: bool,
     add_cac: bool,
     first: u32,
-) -> Card
-    ensures { λ r. ⌜ r ≡ freshCard «port_count» «channel_count» «entry_count» «white_cac» «add_cac» first ⌝ }
+) -> Core
+    ensures { λ r. ⌜ r ≡ freshCore «port_count» «channel_count» «entry_count» «white_cac» «add_cac» first ⌝ }
 {
     let port = Port::fresh();
-    Card {
-        ports: [port; 64],
-        pool: Pool::fresh(),
-        counter: Counter { number: first },
+    let counter = Counter { number: first };
+    let head = CardHead {
+        counter,
         port_count,
         channel_count,
         entry_count,
         white_cac,
         add_cac,
+    };
+    Core {
+        ports: [port; 64],
+        pool: Pool::fresh(),
+        head,
     }
 }
 
@@ -154,58 +158,6 @@ pub fn is_port(count: usize, p: usize) -> bool
     p < count
 }
 
-// ---- the calls, by value
-
-pub fn port_up(card: Card, p: usize) -> Done
-    ensures { λ r. ⌜ r ≡ doneOf (portUpOf card p) ⌝ }
-{
-    let at = slot(p);
-    let r = port_up_in(terms_at(card, at), p);
-    let pool = card.pool;
-    done_with(card, at, pool, r)
-}
-
-pub fn port_down(card: Card, p: usize) -> Done
-    ensures { λ r. ⌜ r ≡ doneOf (portDownOf card p) ⌝ }
-{
-    let at = slot(p);
-    let mut pool = card.pool;
-    let mut owner = pool.owner;
-    let r = port_down_in(&mut owner, terms_at(card, at), p);
-    pool.owner = owner;
-    done_with(card, at, pool, r)
-}
-
-pub fn set_delegation(card: Card, channels: &[u32; 2816], p: usize, amount: u32) -> Done
-    ensures { λ r. ⌜ r ≡ doneOf (setDelegationOf (now (channels .entry)) card p amount) ⌝ }
-{
-    let at = slot(p);
-    let terms = terms_at(card, at);
-    let pool = card.pool;
-    let r = set_delegation_in(
-        &pool.owner,
-        &pool.channel,
-        &pool.charged,
-        channels,
-        terms,
-        p,
-        amount,
-    );
-    done_with(card, at, pool, r)
-}
-
-pub fn leave(card: Card, channels: &[u32; 2816], p: usize, f: Flow) -> Done
-    ensures { λ r. ⌜ r ≡ doneOf (leaveOf (now (channels .entry)) card p f) ⌝ }
-{
-    let at = slot(p);
-    let terms = terms_at(card, at);
-    let mut pool = card.pool;
-    let mut owner = pool.owner;
-    let r = leave_in(&mut owner, &pool.channel, channels, terms, p, f);
-    pool.owner = owner;
-    done_with(card, at, pool, r)
-}
-
 // ---- the parts of a card
 
 // Where port p's record lies in the table; a number that is no port's is not looked at.
@@ -215,39 +167,30 @@ pub fn slot(p: usize) -> usize
     if 64 <= p { 63 } else { p }
 }
 
-pub fn terms_at(card: Card, at: usize) -> Terms
+pub fn terms_at(core: Core, at: usize) -> Terms
     requires { ⌜ at < 64 ⌝ }
-    ensures { λ r. ⌜ r ≡ termsAt card at ⌝ }
+    ensures { λ r. ⌜ ((areas : Areas) → r ≡ termsAt (cardOf core areas) at) ⌝ }
 {
-    let counter = card.counter;
-    let x = card.ports[at];
-    Terms {
-        at,
-        port_count: card.port_count,
-        channel_count: card.channel_count,
-        entry_count: card.entry_count,
-        white_cac: card.white_cac,
-        add_cac: card.add_cac,
-        counter,
-        x,
-    }
+    let head = core.head;
+    let x = core.ports[at];
+    Terms { at, head, x }
 }
 
 // The card with these maps, and with what a call on them gave.
-pub fn done_with(card: Card, at: usize, pool: Pool, r: Effect) -> Done
+pub fn done_with(core: Core, at: usize, pool: Pool, r: Effect) -> Returned
     requires { ⌜ at < 64 ⌝ }
-    ensures { λ d. ⌜ d ≡ doneWith card at pool r ⌝ }
+    ensures { λ d. ⌜ ((areas : Areas) → d ≡ returnedOf (doneWith (cardOf core areas) at pool r)) ⌝ }
 {
-    let mut c = card;
+    let mut c = core;
     let table = c.ports;
     let change = r.change;
     let changed = ports::update_in(table, at, change);
     c.ports = changed;
     c.pool = pool;
-    let counter = r.counter;
-    c.counter = counter;
-    Done {
-        card: c,
+    let head = r.head;
+    c.head = head;
+    Returned {
+        core: c,
         number: r.number,
         length: r.length,
     }
@@ -255,26 +198,26 @@ pub fn done_with(card: Card, at: usize, pool: Pool, r: Effect) -> Done
 
 // Nothing is written, and the port's record stays as it is.
 pub fn unchanged(terms: Terms, number: u8) -> Effect
-    ensures { λ r. ⌜ r ≡ record { number = number; length = 0; counter = terms .counter; change = Change.Kept } ⌝ }
+    ensures { λ r. ⌜ r ≡ record { number = number; length = 0; head = terms .head; change = Change.Kept } ⌝ }
 {
-    let counter = terms.counter;
+    let head = terms.head;
     Effect {
         number,
         length: 0,
-        counter,
+        head,
         change: Change::Kept,
     }
 }
 
 // Done: the port's record changes, and n octets of reply are written.
 pub fn changed(terms: Terms, change: Change, n: usize) -> Effect
-    ensures { λ r. ⌜ r ≡ record { number = 0; length = n; counter = terms .counter; change = change } ⌝ }
+    ensures { λ r. ⌜ r ≡ record { number = 0; length = n; head = terms .head; change = change } ⌝ }
 {
-    let counter = terms.counter;
+    let head = terms.head;
     Effect {
         number: 0,
         length: n,
-        counter,
+        head,
         change,
     }
 }
@@ -285,7 +228,7 @@ pub fn changed(terms: Terms, change: Change, n: usize) -> Effect
 pub fn port_up_in(terms: Terms, p: usize) -> Effect
     ensures { λ r. ⌜ ((pool : Pool) (text : List ℕ) → ComesTo (λ card. portUpOf card p) p terms pool pool r text text) ⌝ }
 {
-    if !is_port(terms.port_count, p) {
+    if !is_port(terms.head.port_count, p) {
         return unchanged(terms, 7);
     }
     changed(terms, Change::BroughtUp, 0)
@@ -296,7 +239,7 @@ pub fn port_down_in(owner: &mut [u8; 512], terms: Terms, p: usize) -> Effect
     requires { ⌜ length (now owner) ≡ 512 ⌝ }
     ensures { λ r. ⌜ ((pool : Pool) (text : List ℕ) → ComesTo (λ card. portDownOf card p) p terms (withOwner pool (now (owner .entry))) (withOwner pool (now (owner .exit))) r text text) ⌝ }
 {
-    if !is_port(terms.port_count, p) {
+    if !is_port(terms.head.port_count, p) {
         return unchanged(terms, 7);
     }
     let x = terms.x;
@@ -318,7 +261,7 @@ pub fn set_delegation_in<'a>(
 ) -> Effect
     ensures { λ r. ⌜ ((accounting text : List ℕ) → ComesTo (λ card. setDelegationOf (now (channels .entry)) card p amount) p terms (poolOf (now (owner .entry)) (now (channel .entry)) (now (charged .entry)) accounting) (poolOf (now (owner .entry)) (now (channel .entry)) (now (charged .entry)) accounting) r text text) ⌝ }
 {
-    if !is_port(terms.port_count, p) {
+    if !is_port(terms.head.port_count, p) {
         return unchanged(terms, 7);
     }
     if (amount as u64) < pool::committed_of(channels, owner, channel, charged, p as u8) {
@@ -338,7 +281,7 @@ pub fn leave_in(
     requires { ⌜ length (now owner) ≡ 512 ⌝ }
     ensures { λ r. ⌜ ((charged : List Bool) (accounting text : List ℕ) → ComesTo (λ card. leaveOf (now (channels .entry)) card p f) p terms (poolOf (now (owner .entry)) (now (channel .entry)) charged accounting) (poolOf (now (owner .exit)) (now (channel .entry)) charged accounting) r text text) ⌝ }
 {
-    if !is_port(terms.port_count, p) {
+    if !is_port(terms.head.port_count, p) {
         return unchanged(terms, 7);
     }
     let x = terms.x;
@@ -356,47 +299,48 @@ pub fn leave_in(
 
 // ---- what a host may read
 
-pub fn is_up(card: Card, p: usize) -> bool
-    ensures { λ r. ⌜ r ≡ upOf card p ⌝ }
+pub fn is_up(core: Core, p: usize) -> bool
+    ensures { λ r. ⌜ ((areas : Areas) → r ≡ upOf (cardOf core areas) p) ⌝ }
 {
-    if !is_port(card.port_count, p) {
+    if !is_port(core.head.port_count, p) {
         return false;
     }
-    let x = card.ports[p];
+    let x = core.ports[p];
     x.up
 }
 
-pub fn delegation(card: Card, p: usize) -> u32
-    ensures { λ r. ⌜ r ≡ delegationOf card p ⌝ }
+pub fn delegation(core: Core, p: usize) -> u32
+    ensures { λ r. ⌜ ((areas : Areas) → r ≡ delegationOf (cardOf core areas) p) ⌝ }
 {
-    if !is_port(card.port_count, p) {
+    if !is_port(core.head.port_count, p) {
         return 0;
     }
-    let x = card.ports[p];
+    let x = core.ports[p];
     x.delegation
 }
 
-pub fn committed(card: Card, channels: &[u32; 2816], p: usize) -> u64
-    ensures { λ r. ⌜ r ≡ committedAt (now (channels .entry)) card p ⌝ }
+pub fn committed(core: Core, channels: &[u32; 2816], p: usize) -> u64
+    ensures { λ r. ⌜ ((areas : Areas) → r ≡ committedAt (now (channels .entry)) (cardOf core areas) p) ⌝ }
 {
-    if !is_port(card.port_count, p) {
+    if !is_port(core.head.port_count, p) {
         return 0;
     }
-    let pool = card.pool;
+    let pool = core.pool;
     pool::committed_of(channels, &pool.owner, &pool.channel, &pool.charged, p as u8)
 }
 
-pub fn extras(card: Card) -> usize
-    ensures { λ r. ⌜ r ≡ extrasOf (card .pool) ⌝ }
+pub fn extras(core: Core) -> usize
+    ensures { λ r. ⌜ r ≡ extrasOf (core .pool) ⌝ }
 {
-    let pool = card.pool;
+    let pool = core.pool;
     pool::extras_of(&pool.owner)
 }
 
 // The number that the next message takes: a host that stores it can start again behind it.
-pub fn next_transaction(card: Card) -> u32
-    ensures { λ r. ⌜ r ≡ card .counter .number ⌝ }
+pub fn next_transaction(core: Core) -> u32
+    ensures { λ r. ⌜ r ≡ core .head .counter .number ⌝ }
 {
-    let counter = card.counter;
+    let head = core.head;
+    let counter = head.counter;
     counter.number
 }

@@ -1,6 +1,7 @@
 // The worked cases of 01 that the host's calls reach, played and compared with the file stdout. Each line gives what a call answered.
-use card::Card;
-use card::Done;
+use calls::HostCall;
+use card::Core;
+use card::Returned;
 use flows::Flow;
 
 // 64 ports, named by one octet each; 20 IPv4 groups of rate 1000, the last of 1001; all white by 224.0.0.0/4 but two, which are grey and black.
@@ -77,47 +78,57 @@ fn say(what: &[u8], n: u64) {
     io::write_all(1, b"\n");
 }
 
-fn number(what: &[u8], d: Done) -> Card {
-    let n = d.number;
-    say(what, n as u64);
-    d.card
-}
-
-fn began(card: Card, t: Tables, p: usize, i: usize) -> Done {
-    let mut reply = [0u8; 4608];
+// Any call of the host's, with a whole reply buffer.
+fn done(core: Core, t: Tables, call: HostCall) -> Returned {
     let ids = t.ids;
     let channels = t.channels;
     let entries = t.entries;
-    joins::join(card, &ids, &channels, &entries, p, flow(i), &mut reply)
+    let octets = [0u8; 1];
+    let mut reply = [0u8; 4608];
+    calls::call(core, &ids, &channels, &entries, call, &octets, &mut reply)
 }
 
-fn join(what: &[u8], card: Card, t: Tables, p: usize, i: usize) -> Card {
-    number(what, began(card, t, p, i))
+// The same; its number is said.
+fn said(what: &[u8], core: Core, t: Tables, call: HostCall) -> Core {
+    let d = done(core, t, call);
+    let n = d.number;
+    say(what, n as u64);
+    d.core
+}
+
+fn join(what: &[u8], core: Core, t: Tables, p: usize, i: usize) -> Core {
+    said(what, core, t, calls::on_flow(calls::JOIN, p, flow(i)))
+}
+
+fn leave(what: &[u8], core: Core, t: Tables, p: usize, f: Flow) -> Core {
+    said(what, core, t, calls::on_flow(calls::LEAVE, p, f))
+}
+
+fn ask(what: &[u8], core: Core, t: Tables, p: usize, required: u32) -> Core {
+    said(what, core, t, calls::on_port(calls::ASK, p, required, 200))
 }
 
 // Channels 0 to n - 1 join on port p, unseen.
-fn fill(card: Card, t: Tables, p: usize, n: usize) -> Card {
-    let mut c = card;
+fn fill(core: Core, t: Tables, p: usize, n: usize) -> Core {
+    let mut c = core;
     let mut i: usize = 0;
     while i < n {
-        let d = began(c, t, p, i);
-        c = d.card;
+        let d = done(c, t, calls::on_flow(calls::JOIN, p, flow(i)));
+        c = d.core;
         i += 1;
     }
     c
 }
 
-fn opened(card: Card, t: Tables, p: usize, amount: u32) -> Card {
-    let channels = t.channels;
-    let up = card::port_up(card, p);
-    let c = up.card;
-    let d = card::set_delegation(c, &channels, p, amount);
-    d.card
+fn opened(core: Core, t: Tables, p: usize, amount: u32) -> Core {
+    let up = done(core, t, calls::on_port(calls::PORT_UP, p, 0, 0));
+    let d = done(up.core, t, calls::on_port(calls::SET_DELEGATION, p, amount, 0));
+    d.core
 }
 
 // Ports 0 to n - 1, and 12 flows on each of ports 1 to n - 1.
-fn open_ports(card: Card, t: Tables, n: usize) -> Card {
-    let mut c = card;
+fn open_ports(core: Core, t: Tables, n: usize) -> Core {
+    let mut c = core;
     let mut p: usize = 0;
     while p < n {
         c = opened(c, t, p, 100000);
@@ -126,8 +137,8 @@ fn open_ports(card: Card, t: Tables, n: usize) -> Card {
     c
 }
 
-fn fill_ports(card: Card, t: Tables, n: usize) -> Card {
-    let mut c = card;
+fn fill_ports(core: Core, t: Tables, n: usize) -> Core {
+    let mut c = core;
     let mut p: usize = 1;
     while p < n {
         c = fill(c, t, p, 12);
@@ -136,25 +147,24 @@ fn fill_ports(card: Card, t: Tables, n: usize) -> Card {
     c
 }
 
-fn started(t: Tables, first: u32, ports: usize) -> card::Started {
+fn started(t: Tables, first: u32, ports: usize) -> card::Fresh {
     let ids = t.ids;
     let channels = t.channels;
     let entries = t.entries;
     card::start(&ids, ports, &channels, 20, &entries, 3, true, false, first)
 }
 
-fn figures(card: Card, t: Tables, p: usize) {
+fn figures(core: Core, t: Tables, p: usize) {
     let channels = t.channels;
-    say(b"committed", card::committed(card, &channels, p));
-    say(b"delegation", card::delegation(card, p) as u64);
-    say(b"extras", card::extras(card) as u64);
+    say(b"committed", card::committed(core, &channels, p));
+    say(b"delegation", card::delegation(core, p) as u64);
+    say(b"extras", card::extras(core) as u64);
 }
 
 // Delegation 4000, committed 3000: rate 1000 starts, 1001 gives 4; and the other numbers of join and leave.
 fn admission(t: Tables) {
     let s = started(t, 1, 64);
-    let mut c = s.card;
-    let channels = t.channels;
+    let mut c = s.core;
     c = join(b"join on a down port", c, t, 0, 0);
     c = opened(c, t, 0, 4000);
     c = fill(c, t, 0, 3);
@@ -165,30 +175,27 @@ fn admission(t: Tables) {
     c = join(b"a black channel", c, t, 0, 17);
     c = join(b"a grey channel", c, t, 0, 18);
     c = join(b"no such port", c, t, 64, 0);
-    c = number(
-        b"delegation under committed",
-        card::set_delegation(c, &channels, 0, 3999),
-    );
-    c = number(b"leave", card::leave(c, &channels, 0, flow(3)));
-    c = number(b"leave again", card::leave(c, &channels, 0, flow(3)));
+    let less = calls::on_port(calls::SET_DELEGATION, 0, 3999, 0);
+    c = said(b"delegation under committed", c, t, less);
+    c = leave(b"leave", c, t, 0, flow(3));
+    c = leave(b"leave again", c, t, 0, flow(3));
     let bad = Flow {
         family: 3,
         sourced: 0,
         group: [0, 0, 0, 0],
         source: [0, 0, 0, 0],
     };
-    c = number(b"leave of a bad address", card::leave(c, &channels, 0, bad));
+    c = leave(b"leave of a bad address", c, t, 0, bad);
     figures(c, t, 0);
-    c = number(b"port down", card::port_down(c, 0));
-    c = number(b"port up", card::port_up(c, 0));
+    c = said(b"port down", c, t, calls::on_port(calls::PORT_DOWN, 0, 0, 0));
+    c = said(b"port up", c, t, calls::on_port(calls::PORT_UP, 0, 0, 0));
     figures(c, t, 0);
 }
 
 // 256 extras: a fourth flow starts, a fifth gives 5. 255 extras: a fifth starts. A 17th never does.
 fn room(t: Tables) {
     let s = started(t, 1, 64);
-    let mut c = s.card;
-    let channels = t.channels;
+    let mut c = s.core;
     c = open_ports(c, t, 34);
     c = fill(c, t, 0, 16);
     c = join(b"a 17th flow", c, t, 0, 16);
@@ -197,10 +204,7 @@ fn room(t: Tables) {
     say(b"extras", card::extras(c) as u64);
     c = join(b"a fourth flow", c, t, 33, 3);
     c = join(b"a fifth flow", c, t, 33, 4);
-    c = number(
-        b"leave on another port",
-        card::leave(c, &channels, 1, flow(0)),
-    );
+    c = leave(b"leave on another port", c, t, 1, flow(0));
     c = join(b"a fifth flow at 255 extras", c, t, 33, 4);
     say(b"extras", card::extras(c) as u64);
 }
@@ -208,34 +212,36 @@ fn room(t: Tables) {
 // Transaction 16,777,215 is followed by 1; and the numbers of ask and start.
 fn transactions(t: Tables) {
     let s = started(t, 16777215, 64);
-    let mut c = s.card;
-    let ids = t.ids;
-    let mut reply = [0u8; 4608];
+    let mut c = s.core;
     c = opened(c, t, 0, 100);
     c = opened(c, t, 1, 100);
     say(b"next", card::next_transaction(c) as u64);
-    c = number(
-        b"ask for what is there",
-        joins::ask(c, &ids, 0, 100, 200, &mut reply),
-    );
-    c = number(b"ask", joins::ask(c, &ids, 0, 101, 200, &mut reply));
+    c = ask(b"ask for what is there", c, t, 0, 100);
+    c = ask(b"ask", c, t, 0, 101);
     say(b"next", card::next_transaction(c) as u64);
-    c = number(b"ask again", joins::ask(c, &ids, 0, 101, 200, &mut reply));
-    c = number(
-        b"ask on another port",
-        joins::ask(c, &ids, 1, 101, 200, &mut reply),
-    );
+    c = ask(b"ask again", c, t, 0, 101);
+    c = ask(b"ask on another port", c, t, 1, 101);
     say(b"next", card::next_transaction(c) as u64);
-    let mut small = [0u8; 64];
-    c = number(
-        b"a small buffer",
-        joins::ask(c, &ids, 1, 101, 200, &mut small),
-    );
+    c = cramped(c, t);
     let none = started(t, 0, 64);
     say(b"start with transaction 0", none.number as u64);
     let many = started(t, 1, 65);
     say(b"start with 65 ports", many.number as u64);
     say(b"next", card::next_transaction(c) as u64);
+}
+
+// Port 1 asks with a reply buffer that is too small.
+fn cramped(core: Core, t: Tables) -> Core {
+    let ids = t.ids;
+    let channels = t.channels;
+    let entries = t.entries;
+    let octets = [0u8; 1];
+    let mut small = [0u8; 64];
+    let call = calls::on_port(calls::ASK, 1, 101, 200);
+    let d = calls::call(core, &ids, &channels, &entries, call, &octets, &mut small);
+    let n = d.number;
+    say(b"a small buffer", n as u64);
+    d.core
 }
 
 fn main() {

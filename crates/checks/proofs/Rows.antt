@@ -23,9 +23,8 @@ use Rattle.rows.specs.declared.Found.the-variants.{At, Nothing}
 use Rattle.circuits.specs.Circuits.{portOf}
 use Rattle.circuits.proofs.Circuits.{port-found}
 use Rattle.pool.specs.declared.Pool.{Pool}
-use Rattle.card.specs.declared.Card.{Card}
+use Rattle.card.specs.Cards.{Card, portAt, withPool}
 use Rattle.card.specs.declared.Terms.{Terms}
-use Rattle.card.specs.Cards.{portAt, withPool}
 use Rattle.card.specs.Parts.{HasTerms}
 use Rattle.card.proofs.Parts.{ports-are, is-up}
 use Rattle.checks.specs.Named.{needed, missing}
@@ -53,7 +52,7 @@ module _ (ids : List ℕ) (card : Card) (kind : ℕ) (s : List ℕ) where
     unfolding namedRows
     row-55 h = rw (none-by (lacks kind s) whole, some-by (length (faults kind s)) h)
 
-    pub row-port : ltb 0 (length (faults kind s)) ≡ false → located card (portOf ids (card .«port_count») (idIn s)) ≡ namedRows ids card kind s
+    pub row-port : ltb 0 (length (faults kind s)) ≡ false → located card (portOf ids (card .head .«port_count») (idIn s)) ≡ namedRows ids card kind s
     unfolding namedRows
     row-port h = rw (none-by (lacks kind s) whole, none-by (length (faults kind s)) h)
 
@@ -80,21 +79,21 @@ module _ (ids : List ℕ) (count : ℕ) (s : List ℕ) where
 
 -- from the terms of a call on that port, whatever the maps hold
 pub located-by : {ids : List ℕ} {card : Card} {s : List ℕ} {named : ℕ} {terms : Terms} (pool : Pool) → HasTerms card named terms
-    → named ≡ portNamed ids (terms .«port_count») s → Located ids (withPool card pool) s named (terms .x .up)
+    → named ≡ portNamed ids (terms .head .«port_count») s → Located ids (withPool card pool) s named (terms .x .up)
 located-by {ids} {s = s} pool h e = record { port = e ∙ ap (λ (n : ℕ). portNamed ids n s) (sym (ports-are h)); state = λ l. is-up h l refl }
 
 module _ (ids : List ℕ) (card : Card) (s : List ℕ) {named : ℕ} {up : Bool} (g : Located ids card s named up) where
-  pub port-unknown : 64 ≤ named → Refused 0x500 ≡ located card (portOf ids (card .«port_count») (idIn s))
+  pub port-unknown : 64 ≤ named → Refused 0x500 ≡ located card (portOf ids (card .head .«port_count») (idIn s))
   unfolding located
-  port-unknown l = rw (none-named ids (card .«port_count») s (g .port) l)
+  port-unknown l = rw (none-named ids (card .head .«port_count») s (g .port) l)
 
-  pub port-up : named < 64 → up ≡ true → Passed named ≡ located card (portOf ids (card .«port_count») (idIn s))
+  pub port-up : named < 64 → up ≡ true → Passed named ≡ located card (portOf ids (card .head .«port_count») (idIn s))
   unfolding located
-  port-up l u = rw (is-named ids (card .«port_count») s (g .port) l, g .state l, u)
+  port-up l u = rw (is-named ids (card .head .«port_count») s (g .port) l, g .state l, u)
 
-  pub port-down : named < 64 → up ≡ false → Refused 0x6 ≡ located card (portOf ids (card .«port_count») (idIn s))
+  pub port-down : named < 64 → up ≡ false → Refused 0x6 ≡ located card (portOf ids (card .head .«port_count») (idIn s))
   unfolding located
-  port-down l u = rw (is-named ids (card .«port_count») s (g .port) l, g .state l, u)
+  port-down l u = rw (is-named ids (card .head .«port_count») s (g .port) l, g .state l, u)
 
 -- ---- what a verdict tells
 -- every row is passed, and the message's Target names port p, which is up
@@ -104,9 +103,9 @@ pub record TablePassed (ids : List ℕ) (card : Card) (h : Header) (s : List ℕ
   pub sound : listOk (depthOf (h .result)) false s ≡ true
   pub whole : missing (needed (h .kind)) (itemsOf s) ≡ []
   pub faultless : faults (h .kind) s ≡ []
-  pub found : portOf ids (card .«port_count») (idIn s) ≡ At p
+  pub found : portOf ids (card .head .«port_count») (idIn s) ≡ At p
   pub small : p < 64
-  pub below : p < card .«port_count»
+  pub below : p < card .head .«port_count»
   pub up : portAt card p .up ≡ true
 
 -- the rows before those about TLVs are passed
@@ -123,9 +122,9 @@ pub data TableRefused (ids : List ℕ) (card : Card) (h : Header) (s : List ℕ)
   lacking : Sound h s → (missing (needed (h .kind)) (itemsOf s) ≡ [] → ⊥) → TableRefused ids card h s 0x54
   faulty : Sound h s → missing (needed (h .kind)) (itemsOf s) ≡ [] → (faults (h .kind) s ≡ [] → ⊥) → TableRefused ids card h s 0x55
   unknown : Sound h s → missing (needed (h .kind)) (itemsOf s) ≡ [] → faults (h .kind) s ≡ []
-      → portOf ids (card .«port_count») (idIn s) ≡ Nothing → TableRefused ids card h s 0x500
+      → portOf ids (card .head .«port_count») (idIn s) ≡ Nothing → TableRefused ids card h s 0x500
   down : {p : ℕ} → Sound h s → missing (needed (h .kind)) (itemsOf s) ≡ [] → faults (h .kind) s ≡ []
-      → portOf ids (card .«port_count») (idIn s) ≡ At p → portAt card p .up ≡ false → TableRefused ids card h s 0x6
+      → portOf ids (card .head .«port_count») (idIn s) ≡ At p → portAt card p .up ≡ false → TableRefused ids card h s 0x6
 
 empty : {A : Type 0} (l : List A) → length l ≡ 0 → l ≡ []
 empty [] e = refl
@@ -140,9 +139,9 @@ module _ (ids : List ℕ) (card : Card) (h : Header) (s : List ℕ) where
   Tells (Passed p) = TablePassed ids card h s p
 
   module _ (past : Sound h s) (whole : missing (needed (h .kind)) (itemsOf s) ≡ []) (faultless : faults (h .kind) s ≡ []) where
-    up-tells : (p : ℕ) → portOf ids (card .«port_count») (idIn s) ≡ At p → (b : Bool) → portAt card p .up ≡ b → Tells (cond b (Passed p) (Refused 0x6))
+    up-tells : (p : ℕ) → portOf ids (card .head .«port_count») (idIn s) ≡ At p → (b : Bool) → portAt card p .up ≡ b → Tells (cond b (Passed p) (Refused 0x6))
     up-tells p e true u =
-        let g = port-found ids (card .«port_count») (idIn s) e in
+        let g = port-found ids (card .head .«port_count») (idIn s) e in
         record {
           known = past .known;
           result = past .result;
@@ -156,15 +155,15 @@ module _ (ids : List ℕ) (card : Card) (h : Header) (s : List ℕ) where
         }
     up-tells p e false u = down past whole faultless e u
 
-    port-tells : (f : Found) → portOf ids (card .«port_count») (idIn s) ≡ f → Tells (located card f)
+    port-tells : (f : Found) → portOf ids (card .head .«port_count») (idIn s) ≡ f → Tells (located card f)
     unfolding located
     port-tells Nothing e = unknown past whole faultless e
     port-tells (At p) e = up-tells p e (portAt card p .up) refl
 
   named-tells : Sound h s → (a b : Bool) → eqb (lacks (h .kind) s) 0 ≡ a → eqb (length (faults (h .kind) s)) 0 ≡ b
-      → Tells (cond a (cond b (located card (portOf ids (card .«port_count») (idIn s))) (Refused 0x55)) (Refused 0x54))
+      → Tells (cond a (cond b (located card (portOf ids (card .head .«port_count») (idIn s))) (Refused 0x55)) (Refused 0x54))
   named-tells past true true ha hb =
-      port-tells past (empty _ (eqb-true _ _ ha)) (empty _ (eqb-true _ _ hb)) (portOf ids (card .«port_count») (idIn s)) refl
+      port-tells past (empty _ (eqb-true _ _ ha)) (empty _ (eqb-true _ _ hb)) (portOf ids (card .head .«port_count») (idIn s)) refl
   named-tells past true false ha hb = faulty past (empty _ (eqb-true _ _ ha)) (filled _ (eqb-false _ _ hb))
   named-tells past false b ha hb = lacking past (filled _ (eqb-false _ _ ha))
 
@@ -183,7 +182,7 @@ module _ (ids : List ℕ) (card : Card) (h : Header) (s : List ℕ) where
   pub passed-tells : {p : ℕ} → tableOf ids card h s ≡ Passed p → TablePassed ids card h s p
   passed-tells e = rw e at tells
 
-  pub passed-named : {p : ℕ} → tableOf ids card h s ≡ Passed p → portNamed ids (card .«port_count») s ≡ p
+  pub passed-named : {p : ℕ} → tableOf ids card h s ≡ Passed p → portNamed ids (card .head .«port_count») s ≡ p
   unfolding portNamed numberOf
   passed-named e = ap numberOf (passed-tells e .found)
 

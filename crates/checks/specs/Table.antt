@@ -15,8 +15,7 @@ use Rattle.replies.specs.Replies.{refusalOf}
 use Rattle.rows.specs.declared.Found.{Found}
 use Rattle.rows.specs.declared.Found.the-variants.{At, Nothing}
 use Rattle.circuits.specs.Circuits.{portOf}
-use Rattle.card.specs.declared.Card.{Card}
-use Rattle.card.specs.Cards.{portAt}
+use Rattle.card.specs.Cards.{Card, portAt}
 use Rattle.checks.specs.Named.{needed, missing, singleOf, fromFault}
 use Rattle.checks.specs.declared.Verdict.{Verdict}
 use Rattle.checks.specs.declared.Verdict.the-variants.{Refused, Passed}
@@ -50,7 +49,7 @@ portNamed ids count s = numberOf (portOf ids count (idIn s))
 
 -- the message's Target names this port, and `up` tells whether it is up
 pub record Located (ids : List ℕ) (card : Card) (s : List ℕ) (named : ℕ) (up : Bool) : Type 0 where
-  pub port : named ≡ portNamed ids (card .«port_count») s
+  pub port : named ≡ portNamed ids (card .head .«port_count») s
   pub state : named < 64 → portAt card named .up ≡ up
 
 -- port unknown, port down
@@ -67,7 +66,7 @@ unfoldable pub namedRows : List ℕ → Card → ℕ → List ℕ → Verdict
 namedRows ids card kind s =
     cond (eqb (length (missing (needed kind) (itemsOf s))) 0)
     (cond (eqb (length (faults kind s)) 0)
-    (located card (portOf ids (card .«port_count») (idIn s)))
+    (located card (portOf ids (card .head .«port_count») (idIn s)))
     (Refused 0x55))
     (Refused 0x54)
 

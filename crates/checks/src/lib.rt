@@ -1,5 +1,4 @@
 // The rows of 01's table that all messages go through, and the refusals that answer them.
-use card::Card;
 use fields::ALLOCATION;
 use fields::COMMAND;
 use fields::REQUEST;
@@ -17,6 +16,7 @@ ghost use Rattle.octets.specs.Writing.{Wrote};
 ghost use Rattle.items.specs.Items.{itemsOf};
 ghost use Rattle.circuits.specs.Circuits.{portOf};
 ghost use Rattle.replies.specs.Replies.{refusalOf};
+ghost use Rattle.card.specs.Cards.{Card};
 ghost use Rattle.checks.specs.Named.{beside, needed, missing, singleOf, fromFault};
 ghost use Rattle.checks.specs.Table.{handled, resultOk, idIn, portNamed, Located, located, faults, namedRows, tableOf, copyOf, enclosedOf, refusedOf};
 
@@ -67,7 +67,7 @@ fn check_named(named: usize, up: bool, kind: u8, tlvs: &[u8]) -> Verdict
 }
 
 fn check_port(named: usize, up: bool) -> Verdict
-    ensures { λ r. ⌜ ((ids : List ℕ) (card : Card) (s : List ℕ) → Located ids card s named up → r ≡ located card (portOf ids (card .«port_count») (idIn s))) ⌝ }
+    ensures { λ r. ⌜ ((ids : List ℕ) (card : Card) (s : List ℕ) → Located ids card s named up → r ≡ located card (portOf ids (card .head .«port_count») (idIn s))) ⌝ }
 {
     if 64 <= named {
         return Verdict::Refused(0x500);

@@ -9,11 +9,9 @@ use Rattle.octets.proofs.Tests.{taken, left}
 use Rattle.flows.specs.declared.Flow.{Flow}
 use Rattle.rows.specs.declared.Found.the-variants.{At}
 use Rattle.pool.specs.Pool.{isActive, hasFlow, began, accounted, endedFlow}
-use Rattle.card.specs.declared.Card.{Card}
-use Rattle.card.specs.Cards.{withPool}
+use Rattle.card.specs.Cards.{Card, withPool}
 use Rattle.joins.specs.Joins.{admitNumber}
-use Rattle.commands.specs.declared.Ran.{Ran}
-use Rattle.commands.specs.Commands.{fails, succeeds, addNew, addRow, deleteFlow}
+use Rattle.commands.specs.Commands.{Ran, fails, succeeds, addNew, addRow, deleteFlow}
 
 module _ (channels : List ℕ) (card : Card) (p : ℕ) (f : Flow) where
   abbrev ends : Ran
@@ -33,10 +31,10 @@ module _ (card : Card) (p k : ℕ) where
     again = succeeds (withPool card (accounted (card .pool) p k accounting))
 
     abbrev begins : Ran
-    begins = succeeds (withPool card (began (card .pool) p k (card .«add_cac») accounting))
+    begins = succeeds (withPool card (began (card .pool) p k (card .head .«add_cac») accounting))
 
     abbrev number : ℕ
-    number = admitNumber channels card (card .«add_cac») p k
+    number = admitNumber channels card (card .head .«add_cac») p k
 
     pub add-active : isActive (card .pool) p k ≡ true → again ≡ addRow channels card p accounting (At k)
     unfolding addRow

@@ -17,16 +17,14 @@ use Rattle.channels.specs.Channels.{channelOf}
 use Rattle.ports.specs.declared.Port.{Port}
 use Rattle.pool.specs.declared.Pool.{Pool}
 use Rattle.pool.specs.Pool.{Whole, isActive, hasFlow, began, endedFlow, accounted}
-use Rattle.card.specs.declared.Card.{Card}
+use Rattle.card.specs.Cards.{Card, withPool}
 use Rattle.card.specs.declared.Terms.{Terms}
-use Rattle.card.specs.Cards.{withPool}
 use Rattle.card.specs.Parts.{HasTerms}
 use Rattle.card.proofs.Parts.{channels-are, record-is}
 use Rattle.joins.specs.Joins.{AsLent, admitNumber}
 use Rattle.commands.specs.Orders.{Order, orderOf}
 use Rattle.commands.specs.Orders.Order.{ill, add, delete, deleteAll}
-use Rattle.commands.specs.declared.Ran.{Ran}
-use Rattle.commands.specs.Commands.{fails, succeeds, addNew, addRow, deleteFlow, obeyed, ranOf, ranWith, Runs}
+use Rattle.commands.specs.Commands.{Ran, fails, succeeds, addNew, addRow, deleteFlow, obeyed, ranOf, ranWith, Runs}
 
 module _ {ran : Card → Ran} {terms : Terms} {before after : Pool} where
   pub runs-by : (code : ℕ) {y : Pool} → after ≡ y → Whole y → ((card : Card) → HasTerms card (terms .at) terms → ranWith card y code ≡ ran (withPool card before))
@@ -42,7 +40,7 @@ module _ {card : Card} {terms : Terms} (h : HasTerms card (terms .at) terms) whe
   pub terms-lent : (pool : Pool) → AsLent (withPool card pool) (pool .owner) (pool .channel) (pool .charged) (terms .at) (terms .x .delegation)
   terms-lent pool = record { owner = refl; channel = refl; charged = refl; delegation = ap (λ (x : Port). x .delegation) (record-is h) }
 
-  pub listed : (channels : List ℕ) (f : Flow) {found x : Found} → found ≡ channelOf channels (terms .«channel_count») f → found ≡ x → channelOf channels (card .«channel_count») f ≡ x
+  pub listed : (channels : List ℕ) (f : Flow) {found x : Found} → found ≡ channelOf channels (terms .head .«channel_count») f → found ≡ x → channelOf channels (card .head .«channel_count») f ≡ x
   listed channels f e t = ap (λ (n : ℕ). channelOf channels n f) (channels-are h) ∙ sym e ∙ t
 
 -- ---- a failed command changes nothing
@@ -59,7 +57,7 @@ module _ (channels : List ℕ) (card : Card) (p : ℕ) where
   kept-add accounting Nothing n = refl
   kept-add accounting (At k) n =
       kept-if (isActive (card .pool) p k) (succeeds (withPool card (accounted (card .pool) p k accounting))) (addNew channels card p k accounting) refl
-      (kept-if (eqb (admitNumber channels card (card .«add_cac») p k) 0) (succeeds (withPool card (began (card .pool) p k (card .«add_cac») accounting))) (fails card 0x13) refl (λ m. refl))
+      (kept-if (eqb (admitNumber channels card (card .head .«add_cac») p k) 0) (succeeds (withPool card (began (card .pool) p k (card .head .«add_cac») accounting))) (fails card 0x13) refl (λ m. refl))
       n
 
   kept-delete : (f : Flow) → Kept (deleteFlow channels card p f)
@@ -69,7 +67,7 @@ module _ (channels : List ℕ) (card : Card) (p : ℕ) where
   pub failed-keeps : (o : Order) → (obeyed channels card p o .code ≡ 0 → ⊥) → obeyed channels card p o .card ≡ card
   unfolding obeyed
   failed-keeps (ill code) n = refl
-  failed-keeps (add f accounting) n = kept-add accounting (channelOf channels (card .«channel_count») f) n
+  failed-keeps (add f accounting) n = kept-add accounting (channelOf channels (card .head .«channel_count») f) n
   failed-keeps (delete f) n = kept-delete f n
   failed-keeps deleteAll n = absurd (n refl)
 

@@ -10,14 +10,17 @@ use Rattle.rows.specs.declared.Found.the-variants.{At, Nothing}
 use Rattle.channels.specs.Channels.{channelOf}
 use Rattle.pool.specs.declared.Pool.{Pool}
 use Rattle.pool.specs.Pool.{Whole, isActive, hasFlow, began, endedFlow, endedAll, accounted}
-use Rattle.card.specs.declared.Card.{Card}
+use Rattle.card.specs.Cards.{Card, withPool}
 use Rattle.card.specs.declared.Terms.{Terms}
-use Rattle.card.specs.Cards.{withPool}
 use Rattle.card.specs.Parts.{HasTerms}
 use Rattle.joins.specs.Joins.{admitNumber}
 use Rattle.commands.specs.Orders.{Order, orderOf}
 use Rattle.commands.specs.Orders.Order.{ill, add, delete, deleteAll}
-use Rattle.commands.specs.declared.Ran.{Ran}
+
+-- the card behind a command, and its result code: 0 for success
+pub record Ran : Type 0 where
+  pub card : Card
+  pub code : ℕ
 
 -- a failed command changes nothing
 abbrev pub fails : Card → ℕ → Ran
@@ -29,8 +32,8 @@ succeeds card = record { card = card; code = 0 }
 -- room, then admission: 0x13. The flow is charged exactly if MRepCtl-CAC is on
 unfoldable pub addNew : List ℕ → Card → ℕ → ℕ → ℕ → Ran
 addNew channels card p k accounting =
-    cond (eqb (admitNumber channels card (card .«add_cac») p k) 0)
-    (succeeds (withPool card (began (card .pool) p k (card .«add_cac») accounting)))
+    cond (eqb (admitNumber channels card (card .head .«add_cac») p k) 0)
+    (succeeds (withPool card (began (card .pool) p k (card .head .«add_cac») accounting)))
     (fails card 0x13)
 
 -- "Add: unlisted 0x66; active already, succeed and set accounting only"
@@ -47,7 +50,7 @@ deleteFlow channels card p f =
 
 unfoldable pub obeyed : List ℕ → Card → ℕ → Order → Ran
 obeyed channels card p (ill code) = fails card code
-obeyed channels card p (add f accounting) = addRow channels card p accounting (channelOf channels (card .«channel_count») f)
+obeyed channels card p (add f accounting) = addRow channels card p accounting (channelOf channels (card .head .«channel_count») f)
 obeyed channels card p (delete f) = deleteFlow channels card p f
 obeyed channels card p deleteAll = succeeds (withPool card (endedAll (card .pool) p))
 

@@ -1,5 +1,4 @@
 // One command of a Multicast Replication Control message (144), on the pool's four maps, which are lent and changed in place.
-use card::Card;
 use card::Terms;
 use fields::Command;
 use fields::FLOW;
@@ -15,13 +14,6 @@ ghost use Rattle.channels.specs.Channels.{channelOf};
 ghost use Rattle.pool.specs.Pool.{poolOf, Whole};
 ghost use Rattle.commands.specs.Orders.{flowsAsked, flowContent, shapeOk, flowOrder};
 ghost use Rattle.commands.specs.Commands.{addRow, deleteFlow, obeyed, ranOf, Runs};
-
-// The card behind a command, and its result code: 0 for success. The definitions speak of it; the functions lend the maps.
-#[repr(C)]
-pub struct Ran {
-    pub card: Card,
-    pub code: u16,
-}
 
 // On the port at the terms' place; the answer is the result code: 0 for success.
 pub fn run_command(
@@ -133,9 +125,9 @@ fn add(
     accounting: &mut [u8; 512],
 ) -> u16
     requires { ⌜ (terms .at < 256) × Whole (poolOf (now owner) (now channel) (now charged) (now accounting)) ⌝ }
-    ensures { λ r. ⌜ Runs (λ card. addRow (now (channels .entry)) card (terms .at) value (channelOf (now (channels .entry)) (card .«channel_count») f)) terms (poolOf (now (owner .entry)) (now (channel .entry)) (now (charged .entry)) (now (accounting .entry))) (poolOf (now (owner .exit)) (now (channel .exit)) (now (charged .exit)) (now (accounting .exit))) r ⌝ }
+    ensures { λ r. ⌜ Runs (λ card. addRow (now (channels .entry)) card (terms .at) value (channelOf (now (channels .entry)) (card .head .«channel_count») f)) terms (poolOf (now (owner .entry)) (now (channel .entry)) (now (charged .entry)) (now (accounting .entry))) (poolOf (now (owner .exit)) (now (channel .exit)) (now (charged .exit)) (now (accounting .exit))) r ⌝ }
 {
-    let found = channels::channel_of(channels, terms.channel_count, f);
+    let found = channels::channel_of(channels, terms.head.channel_count, f);
     match found {
         Found::Nothing => 0x66,
         Found::At(k) => add_channel(
@@ -167,7 +159,7 @@ fn add_channel(
 {
     let p = terms.at as u8;
     let x = terms.x;
-    let cac = terms.add_cac;
+    let cac = terms.head.add_cac;
     if pool::account_in(accounting, owner, channel, p, k, value) {
         return 0;
     }

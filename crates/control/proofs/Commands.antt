@@ -21,10 +21,9 @@ use Rattle.reader.specs.Reader.{stepAt}
 use Rattle.reader.proofs.Steps.{step-end, step-broken, step-tlv}
 use Rattle.replies.specs.Replies.{successOf}
 use Rattle.circuits.specs.Circuits.{idAt}
-use Rattle.card.specs.declared.Card.{Card}
+use Rattle.card.specs.Cards.{Card}
 use Rattle.card.specs.Outcome.{Outcome, becomes, writes}
-use Rattle.commands.specs.declared.Ran.{Ran}
-use Rattle.commands.specs.Commands.{ranOf}
+use Rattle.commands.specs.Commands.{Ran, ranOf}
 use Rattle.control.specs.Control.{failureOf, allGood, commandsFrom, commandsIn, controlled}
 
 module _ (channels : List ℕ) (h : Header) (id : List ℕ) (p : ℕ) (card : Card) (seq : ℕ) where

@@ -3,18 +3,16 @@ use mathlib.Core.Path.{_≡_, refl, sym, ap, subst, _∙_}
 use mathlib.Core.List.{List}
 use Prim.Native.Nat.{ℕ}
 use Rattle.octets.specs.Writing.{Wrote}
-use Rattle.ports.specs.declared.Counter.{Counter}
 use Rattle.ports.specs.declared.Change.the-variants.{Kept}
 use Rattle.pool.specs.declared.Pool.{Pool}
-use Rattle.card.specs.declared.Card.{Card}
-use Rattle.card.specs.declared.Done.{Done}
+use Rattle.card.specs.Cards.{Card, withPool, withHead}
+use Rattle.card.specs.Outcome.{Done, Outcome, writes, Ends}
 use Rattle.card.specs.declared.Terms.{Terms}
 use Rattle.card.specs.declared.Effect.{Effect}
-use Rattle.card.specs.Cards.{withPool, withCounter}
-use Rattle.card.specs.Outcome.{Outcome, writes, Ends}
+use Rattle.card.specs.declared.CardHead.{CardHead}
 use Rattle.card.specs.Parts.{changedAt, doneWith, ComesTo}
 use Rattle.card.proofs.Ends.{made, ends-as, ends-writes}
-use Rattle.card.proofs.Parts.{counter-is, kept-at}
+use Rattle.card.proofs.Parts.{head-is, kept-at}
 use Rattle.control.specs.Control.{wrote, Controls}
 
 -- a writer wrote the reply, and r tells how many octets
@@ -32,12 +30,12 @@ ends-by h e = record { gives = e ∙ h .gives; text = h .text }
 
 -- the commands ran on the lent maps, and no port's record changes
 pub comes-controlled : {o : Card → Outcome} {terms : Terms} {before after : Pool} {n : ℕ} {text written : List ℕ} → Controls o terms before after n text written
-    → {r : Effect} → r ≡ record { number = 0; length = n; counter = terms .counter; change = Kept } → ComesTo o (terms .at) terms before after r text written
+    → {r : Effect} → r ≡ record { number = 0; length = n; head = terms .head; change = Kept } → ComesTo o (terms .at) terms before after r text written
 comes-controlled {terms = terms} {after = after} {n} g e = record {
   each =
       λ card h.
       ends-by (g .each card h)
       (ap (doneWith card (terms .at) after) e
-      ∙ ap (λ (k : Counter). wrote (withCounter (changedAt (withPool card after) (terms .at) Kept) k) n) (sym (counter-is h))
+      ∙ ap (λ (k : CardHead). wrote (withHead (changedAt (withPool card after) (terms .at) Kept) k) n) (sym (head-is h))
       ∙ ap (λ (x : Card). wrote x n) (kept-at (withPool card after) (terms .at)));
 }

@@ -10,11 +10,9 @@ use Rattle.writers.specs.Tlvs.{tlvOf, targetOf, sequenceOf}
 use Rattle.replies.specs.Replies.{refusalOf, successOf}
 use Rattle.circuits.specs.Circuits.{idAt}
 use Rattle.pool.specs.declared.Pool.{Pool}
-use Rattle.card.specs.declared.Card.{Card}
-use Rattle.card.specs.declared.Done.{Done}
+use Rattle.card.specs.Cards.{Card, withPool}
+use Rattle.card.specs.Outcome.{Done, Outcome, becomes, writes, Ends}
 use Rattle.card.specs.declared.Terms.{Terms}
-use Rattle.card.specs.Cards.{withPool}
-use Rattle.card.specs.Outcome.{Outcome, becomes, writes, Ends}
 use Rattle.card.specs.Parts.{HasTerms}
 use Rattle.commands.specs.Commands.{ranOf}
 

@@ -1,5 +1,4 @@
 // Multicast Replication Control (144) about port p, which passed the table: its commands in order.
-use card::Card;
 use card::Effect;
 use card::Terms;
 use fields::COMMAND;
@@ -15,6 +14,7 @@ ghost use Rattle.writers.specs.Tlvs.{tlvOf, targetOf, sequenceOf};
 ghost use Rattle.pool.specs.Pool.{poolOf, Whole};
 ghost use Rattle.card.specs.Outcome.{Ends};
 ghost use Rattle.card.specs.Parts.{ComesTo};
+ghost use Rattle.card.specs.Cards.{Card};
 ghost use Rattle.control.specs.Control.{failureOf, allGood, commandsFrom, commandsIn, controlled, wrote, Controls};
 
 // The maps become those of the card afterwards; no port's record changes.

@@ -16,7 +16,7 @@ use borrow.Author.Tests.{eqb-true, eq-eqb}
 use Rattle.header.specs.declared.Header.{Header}
 use Rattle.flows.specs.declared.Flow.{Flow}
 use Rattle.replies.specs.Replies.{successOf}
-use Rattle.card.specs.declared.Card.{Card}
+use Rattle.card.specs.Cards.{Card}
 use Rattle.card.specs.Outcome.{Outcome, becomes, writes}
 use Rattle.commands.specs.Orders.{Order, orderOf}
 use Rattle.commands.specs.Orders.Order.{add}

@@ -13,7 +13,7 @@ use borrow.Author.Tests.{leb-true, leb-false}
 use Rattle.header.specs.Header.{headerIn}
 use Rattle.flows.specs.declared.Flow.{Flow}
 use Rattle.flows.proofs.Same.{same-flow-refl}
-use Rattle.card.specs.declared.Card.{Card}
+use Rattle.card.specs.Cards.{Card}
 use Rattle.card.specs.Outcome.{Outcome}
 use Rattle.listing.specs.Listing.{activeAt}
 use Rattle.commands.specs.Orders.{Order, orderOf}

@@ -23,8 +23,7 @@ use Rattle.pool.proofs.Rooms.{room-facts, room-by, room-both}
 use Rattle.pool.proofs.Law.{room-is, owned-began, owned-ended, owned-accounted, extras-began, extras-ended}
 use Rattle.pool.proofs.Whole.{whole-began, whole-ended, whole-accounted}
 use Rattle.pool.proofs.Pools.{pool-began, pool-began-other, pool-ended, pool-ended-other, charges-kept}
-use Rattle.card.specs.declared.Card.{Card}
-use Rattle.card.specs.Cards.{withPool}
+use Rattle.card.specs.Cards.{Card, withPool}
 use Rattle.joins.specs.Joins.{fits, admitNumber}
 use Rattle.demand3.specs.Calls.{Tables}
 use Rattle.demand3.specs.Ledger.{Held, Ledger, write, holds, without, withFlows, begins}

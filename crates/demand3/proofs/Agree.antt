@@ -18,8 +18,7 @@ use Rattle.pool.specs.Pool.{poolSum, extrasOf}
 use Rattle.pool.proofs.Whole.{Whole}
 use Rattle.pool.proofs.Law.{Owned}
 use Rattle.tables.proofs.Tables.{Taken}
-use Rattle.card.specs.declared.Card.{Card}
-use Rattle.card.specs.Cards.{portAt}
+use Rattle.card.specs.Cards.{Card, portAt}
 use Rattle.demand3.specs.Calls.{Tables}
 use Rattle.demand3.specs.Ledger.{Line, Ledger, write}
 use Rattle.demand3.specs.Claim.{charges, Once, Starts, Succeeds}
@@ -40,11 +39,11 @@ pub record PortAgrees (t : Tables) (card : Card) (x : Line) (p : ℕ) : Type 0 w
   pub asks-more : portAt card p .asking ≡ true → portAt card p .delegation < portAt card p .required
 
 pub record Agree (t : Tables) (card : Card) (l : Ledger) : Type 0 where
-  pub ports : card .«port_count» ≡ t .ports
-  pub channels : card .«channel_count» ≡ t .channelCount
-  pub entries : card .«entry_count» ≡ t .entryCount
-  pub white : card .«white_cac» ≡ t .whiteCac
-  pub add : card .«add_cac» ≡ t .addCac
+  pub ports : card .head .«port_count» ≡ t .ports
+  pub channels : card .head .«channel_count» ≡ t .channelCount
+  pub entries : card .head .«entry_count» ≡ t .entryCount
+  pub white : card .head .«white_cac» ≡ t .whiteCac
+  pub add : card .head .«add_cac» ≡ t .addCac
   pub records : length (card .ports) ≡ 64
   pub whole : Whole (card .pool)
   pub owned : Owned (card .pool .owner)

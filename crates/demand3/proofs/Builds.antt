@@ -10,14 +10,13 @@ use borrow.Author.Tests.{eq-eqb, le-leb}
 use Rattle.octets.specs.Tests.{every}
 use Rattle.sums.specs.Sums.{sumBy}
 use Rattle.pool.specs.Pool.{committedOf}
-use Rattle.card.specs.declared.Card.{Card}
-use Rattle.card.specs.Cards.{isPort}
+use Rattle.card.specs.Cards.{Card, isPort}
 use Rattle.card.specs.Outcome.{Outcome}
 use Rattle.card.specs.Calls.{portUpOf, setDelegationOf}
 use Rattle.card.specs.Figures.{upOf}
 use Rattle.listing.specs.Listing.{activeAt}
 use Rattle.commands.specs.Commands.{ranOf}
-use Rattle.demand3.specs.Calls.{Call, ours, outcomeOf, startedOf, cardAfter, history, seen}
+use Rattle.demand3.specs.Calls.{Call, ours, outcomeOf, startedOf, cardAfter, history, seen, byCall}
 use Rattle.demand3.specs.Calls.Call.{portUp, setDelegation, join, message}
 use Rattle.demand3.specs.Ledger.{Ledger, opened, write, withDelegation, holds, begins, entry, entered, ledgerFrom}
 use Rattle.demand3.specs.Claim.{charges, Starts, Claim}
@@ -50,7 +49,7 @@ use Rattle.demand3.proofs.BuildsMessage.{command, both-added, added-kin
 
 -- ---- behind port up: without admission control a join starts, and its number is 0
 refuses-every-join : Claim (calling refusing) → ⊥
-unfolding refusing Starts write
+unfolding refusing byCall Starts write
 refuses-every-join c =
     let d = up-claim refusing false c (up-number false) in
     let z = d .joins 0 first 4608 (first-wanted false) (first-white false) (omega arith) .0 .1 (inl (omega arith)) in
@@ -71,11 +70,11 @@ changes-nothing c = false≢true (up-claim idle true c (up-number true) .is-up 0
 
 -- ---- behind port up, a 144 with two Adds: the second leaves its flow active
 only-first : firstOnly (small false) (upped false) (message both-added 4608) .card ≡ ranOf (small false .channels) (upped false) 0 (command 1) .card
-unfolding firstOnly firstRun
+unfolding firstOnly byCall firstRun
 only-first = rw (added-kind, added-commands, added-port)
 
 runs-command-1 : Claim (calling firstOnly) → ⊥
-unfolding firstOnly
+unfolding firstOnly byCall
 runs-command-1 c =
     let d = up-claim firstOnly false c (up-number false) in
     let active = d .last-add both-added 4608 0 second (command 1 ∷ []) second-reached (omega arith) .1 second-starts in
@@ -83,7 +82,7 @@ runs-command-1 c =
 
 -- and acts, with number 0
 refuses-every-message : Claim (calling deaf) → ⊥
-unfolding deaf
+unfolding deaf byCall
 refuses-every-message c =
     let d = up-claim deaf false c (up-number false) in
     let z = d .adds both-added 4608 0 second (command 1 ∷ []) [] second-reached (omega arith) .1 second-starts .0 in

@@ -23,8 +23,7 @@ use Rattle.lists.specs.declared.Decision.the-variants.{White}
 use Rattle.lists.specs.Prefix.{bits, bitsOf, prefixMatches}
 use Rattle.lists.specs.Lists.{entryAt, entryMatches, matching, weightOf, longest, has, decision, listDecision}
 use Rattle.tables.specs.Tables.{idOk, channelOk, knownList, withinAddress, entryOk, tablesOk}
-use Rattle.card.specs.declared.Card.{Card}
-use Rattle.card.specs.Cards.{isPort}
+use Rattle.card.specs.Cards.{Card, isPort}
 use Rattle.card.specs.Outcome.{Outcome}
 use Rattle.card.specs.Start.{freshCard, firstOk, startOf}
 use Rattle.card.specs.Calls.{portUpOf}

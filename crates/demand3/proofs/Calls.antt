@@ -1,41 +1,43 @@
 -- Demand 3 of our build: any list of calls from a start that is taken.
---     call-step, calls-agree      card and ledger agree behind one call, and behind a list of calls
+--     calls-agree                 card and ledger agree behind a list of calls
+--     lines-kept                  calls that name other ports leave a port's line
 --     demand3-at, claim           what demand 3 says, from that agreement
 -- Assumes nothing.
 use Prim.Native.Nat.{ℕ}
-use mathlib.Core.List.{List, [], _∷_}
-use Rattle.card.specs.declared.Card.{Card}
+use mathlib.Core.Path.{_≡_, refl, _∙_}
+use mathlib.Core.List.{List, [], _∷_, _++_}
+use Rattle.card.specs.Cards.{Card}
 use Rattle.demand3.specs.Calls.{Tables, Call, ours, outcomeOf, cardAfter, history, seen}
-use Rattle.demand3.specs.Calls.Call.{portUp, portDown, setDelegation, join, leave, ask, message}
 use Rattle.demand3.specs.Ledger.{Ledger, entered, ledgerFrom, opened}
 use Rattle.demand3.specs.Claim.{Demand3, Claim}
+use Rattle.demand3.specs.Corollaries.{NoneNames}
 use Rattle.demand3.proofs.Agree.{Agree, TablesTaken}
 use Rattle.demand3.proofs.Figures.{reads-up, reads-delegation, reads-active, reads-committed, reads-once, reads-bounded}
 use Rattle.demand3.proofs.Lists.{lists-times, lists-count, lists-order}
 use Rattle.demand3.proofs.Fresh.{agree-fresh, start-takes}
-use Rattle.demand3.proofs.Host.{up-step, down-step, delegation-step, leave-step, ask-step}
-use Rattle.demand3.proofs.Join.{join-step, join-starts}
-use Rattle.demand3.proofs.Messages.{message-step}
+use Rattle.demand3.proofs.Join.{join-starts}
+use Rattle.demand3.proofs.Each.{call-step, entered-other}
 use Rattle.demand3.proofs.Adds.{adds, last-add}
 
--- card and ledger agree behind a call
-abbrev pub Keeps : Tables → Card → Ledger → Call → Type 0
-Keeps t card l x = Agree t (outcomeOf t card x .card) (entered t l (seen ours t card x))
-
 module _ (t : Tables) (taken : TablesTaken t) where
-  pub call-step : (card : Card) (l : Ledger) → Agree t card l → (x : Call) → Keeps t card l x
-  call-step card l a (portUp p) = up-step t card l a p
-  call-step card l a (portDown p) = down-step t card l a p
-  call-step card l a (setDelegation p amount) = delegation-step t card l a p amount
-  call-step card l a (join p f room) = join-step t card l a p f room
-  call-step card l a (leave p f) = leave-step t card l a p f
-  call-step card l a (ask p required preferred room) = ask-step t card l a p required preferred room
-  call-step card l a (message m room) = message-step t card l a m taken room
-
   pub calls-agree : (xs : List Call) (card : Card) (l : Ledger) → Agree t card l → Agree t (cardAfter ours t card xs) (ledgerFrom t l (history ours t card xs))
   unfolding cardAfter history ledgerFrom
   calls-agree [] card l a = a
-  calls-agree (x ∷ xs) card l a = calls-agree xs (outcomeOf t card x .card) (entered t l (seen ours t card x)) (call-step card l a x)
+  calls-agree (x ∷ xs) card l a = calls-agree xs (outcomeOf t card x .card) (entered t l (seen ours t card x)) (call-step t taken card l a x)
+
+  -- calls that name other ports leave port p's line, behind any list of calls
+  module _ (p : ℕ) where
+    none-enter : (ys : List Call) (card : Card) (l : Ledger) → Agree t card l → NoneNames t ys p → ledgerFrom t l (history ours t card ys) p ≡ l p
+    unfolding history ledgerFrom NoneNames
+    none-enter [] card l a n = refl
+    none-enter (y ∷ ys) card l a n =
+        none-enter ys (outcomeOf t card y .card) (entered t l (seen ours t card y)) (call-step t taken card l a y) (n .1) ∙ entered-other t taken card l a y p (n .0)
+
+    pub lines-kept : (xs ys : List Call) (card : Card) (l : Ledger) → Agree t card l → NoneNames t ys p
+        → ledgerFrom t l (history ours t card (xs ++ ys)) p ≡ ledgerFrom t l (history ours t card xs) p
+    unfolding history ledgerFrom
+    lines-kept [] ys card l a n = none-enter ys card l a n
+    lines-kept (x ∷ xs) ys card l a n = lines-kept xs ys (outcomeOf t card x .card) (entered t l (seen ours t card x)) (call-step t taken card l a x) n
 
   pub demand3-at : (card : Card) (l : Ledger) → Agree t card l → Demand3 ours t card l
   demand3-at card l a =

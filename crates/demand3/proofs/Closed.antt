@@ -16,8 +16,7 @@ use Rattle.circuits.specs.Circuits.{idAt}
 use Rattle.ports.specs.declared.Port.{Port}
 use Rattle.ports.specs.Ports.{delegated}
 use Rattle.pool.specs.Pool.{committedOf}
-use Rattle.card.specs.declared.Card.{Card}
-use Rattle.card.specs.Cards.{hasPort, portAt, withPort}
+use Rattle.card.specs.Cards.{Card, hasPort, portAt, withPort}
 use Rattle.card.specs.Outcome.{Outcome, keeps, becomes}
 use Rattle.card.specs.Calls.{setDelegationOf}
 use Rattle.checks.specs.Table.{enclosedOf}
@@ -35,7 +34,8 @@ use Rattle.demand3.proofs.Views.{Came, kept, notice, refused, ordered, 
 use Rattle.demand3.proofs.Messages.{names-port}
 use Rattle.demand3.proofs.Transfers.{Reallocation, fails, gives, reallocation, at-eq, takes-none}
 use Rattle.demand3.proofs.Requests.{Closed, DownClosed, stays-closed, down-closes}
-use Rattle.demand3.proofs.Calls.{call-step, calls-agree}
+use Rattle.demand3.proofs.Each.{call-step}
+use Rattle.demand3.proofs.Calls.{calls-agree}
 
 module _ (t : Tables) (taken : TablesTaken t) (card : Card) (l : Ledger) (a : Agree t card l) (p : ℕ) where
   -- with no open request no answer is taken, until the host asks

@@ -19,13 +19,11 @@ use Rattle.rows.specs.declared.Found.{Found}
 use Rattle.rows.specs.declared.Found.the-variants.{At, Nothing}
 use Rattle.channels.specs.Channels.{channelOf}
 use Rattle.pool.specs.Pool.{isActive, hasFlow, began, endedFlow, accounted}
-use Rattle.card.specs.declared.Card.{Card}
-use Rattle.card.specs.Cards.{withPool}
+use Rattle.card.specs.Cards.{Card, withPool}
 use Rattle.joins.specs.Joins.{admitNumber}
-use Rattle.commands.specs.declared.Ran.{Ran}
+use Rattle.commands.specs.Commands.{Ran, fails, succeeds, addNew, addRow, deleteFlow, obeyed}
 use Rattle.commands.specs.Orders.{Order, shapeOk, flowContent, flowOrder, orderOf}
 use Rattle.commands.specs.Orders.Order.{ill, add, delete, deleteAll}
-use Rattle.commands.specs.Commands.{fails, succeeds, addNew, addRow, deleteFlow, obeyed}
 use Rattle.demand3.specs.Calls.{Tables}
 use Rattle.demand3.specs.Ledger.{Held, Line, Ledger, write, holds, without, withFlows, begins, acts, actsAll}
 use Rattle.demand3.specs.Reads.{listed}
@@ -95,32 +93,32 @@ module _ (t : Tables) (card : Card) (l : Ledger) (a : Agree t card l) (p : ℕ) 
     add-found = ap (λ (n : ℕ). addRow (t .channels) card p v (channelOf (t .channels) n f)) (a .channels)
 
     abbrev started : ℕ → Card
-    started k = withPool card (began (card .pool) p k (card .«add_cac») v)
+    started k = withPool card (began (card .pool) p k (card .head .«add_cac») v)
 
     module _ (k : ℕ) (e : found t f ≡ At k) where
       new-agrees : holds f (l p .flows) ≡ false → addNew (t .channels) card p k v .code ≡ 0
           → Agree t (addNew (t .channels) card p k v .card) (write l p (begins (l p) f (t .addCac)))
       unfolding addNew
-      new-agrees idle z = go (eqb (admitNumber (t .channels) card (card .«add_cac») p k) 0) refl z
+      new-agrees idle z = go (eqb (admitNumber (t .channels) card (card .head .«add_cac») p k) 0) refl z
         where
-          go : (b : Bool) → eqb (admitNumber (t .channels) card (card .«add_cac») p k) 0 ≡ b → cond {A = Ran} b (succeeds (started k)) (fails card 0x13) .code ≡ 0
+          go : (b : Bool) → eqb (admitNumber (t .channels) card (card .head .«add_cac») p k) 0 ≡ b → cond {A = Ran} b (succeeds (started k)) (fails card 0x13) .code ≡ 0
               → Agree t (cond {A = Ran} b (succeeds (started k)) (fails card 0x13) .card) (write l p (begins (l p) f (t .addCac)))
-          go true s z = admits-step t card l a p port f k e (a .add) v up idle (eqb-true (admitNumber (t .channels) card (card .«add_cac») p k) 0 s)
+          go true s z = admits-step t card l a p port f k e (a .add) v up idle (eqb-true (admitNumber (t .channels) card (card .head .«add_cac») p k) 0 s)
           go false s z = absurd (omega arith)
 
       new-succeeds : (addNew (t .channels) card p k v .code ≡ 0) ↔ Starts t (t .addCac) l p f
       unfolding addNew
-      new-succeeds = (λ z. there (eqb (admitNumber (t .channels) card (card .«add_cac») p k) 0) refl z, back)
+      new-succeeds = (λ z. there (eqb (admitNumber (t .channels) card (card .head .«add_cac») p k) 0) refl z, back)
         where
-          there : (b : Bool) → eqb (admitNumber (t .channels) card (card .«add_cac») p k) 0 ≡ b → cond {A = Ran} b (succeeds (started k)) (fails card 0x13) .code ≡ 0
+          there : (b : Bool) → eqb (admitNumber (t .channels) card (card .head .«add_cac») p k) 0 ≡ b → cond {A = Ran} b (succeeds (started k)) (fails card 0x13) .code ≡ 0
               → Starts t (t .addCac) l p f
-          there true s z = admits t card l a p port f k e (a .add) .0 (eqb-true (admitNumber (t .channels) card (card .«add_cac») p k) 0 s)
+          there true s z = admits t card l a p port f k e (a .add) .0 (eqb-true (admitNumber (t .channels) card (card .head .«add_cac») p k) 0 s)
           there false s z = absurd (omega arith)
 
           back : Starts t (t .addCac) l p f → addNew (t .channels) card p k v .code ≡ 0
           back s =
               ap (λ (b : Bool). cond {A = Ran} b (succeeds (started k)) (fails card 0x13) .code)
-              (eq-eqb (admitNumber (t .channels) card (card .«add_cac») p k) 0 (admits t card l a p port f k e (a .add) .1 s))
+              (eq-eqb (admitNumber (t .channels) card (card .head .«add_cac») p k) 0 (admits t card l a p port f k e (a .add) .1 s))
 
     -- by whether the flow is held, which is whether it is active
     abbrev byActive : ℕ → Bool → Ran

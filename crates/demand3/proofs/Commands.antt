@@ -17,7 +17,7 @@ use Rattle.items.specs.Items.{countOf, firstOf}
 use Rattle.fields.specs.Fields.{sequenceIn}
 use Rattle.writers.specs.Tlvs.{tlvOf, targetOf, sequenceOf}
 use Rattle.replies.specs.Replies.{successOf}
-use Rattle.card.specs.declared.Card.{Card}
+use Rattle.card.specs.Cards.{Card}
 use Rattle.card.specs.Outcome.{Outcome, becomes, writes}
 use Rattle.commands.specs.Commands.{ranOf}
 use Rattle.control.specs.Control.{failureOf, allGood, commandsFrom}

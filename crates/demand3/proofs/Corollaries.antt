@@ -23,8 +23,8 @@ use Rattle.demand3.proofs.Lists.{lists-reply}
 use Rattle.demand3.proofs.Reached.{sound-below, flows-queried}
 use Rattle.demand3.proofs.Fresh.{agree-fresh, started-port}
 use Rattle.demand3.proofs.Quiet.{call-quiet}
-use Rattle.demand3.proofs.Frames.{entered-delegation, lines-kept}
-use Rattle.demand3.proofs.Calls.{call-step, calls-agree, claim}
+use Rattle.demand3.proofs.Each.{call-step, entered-delegation}
+use Rattle.demand3.proofs.Calls.{calls-agree, lines-kept, claim}
 use Rattle.demand3.proofs.Requests.{DownClosed, down-closed}
 use Rattle.demand3.proofs.Closed.{closed-none, host-none, portdown-none, reduction-none}
 
@@ -87,7 +87,7 @@ module _ (t : Tables) (first : ℕ) (started : startedOf t first .number ≡ 0) 
   delegation-kept xs x p port n k =
       let a = after xs in
       reads-delegation t _ _ (call-step t taken _ _ a x) taken p port
-      ∙ entered-delegation t taken p _ _ a x n k
+      ∙ entered-delegation t taken _ _ a x p n k
       ∙ sym (reads-delegation t _ _ a taken p port)
 
   -- ---- the list of flows

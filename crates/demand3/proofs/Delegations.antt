@@ -17,8 +17,7 @@ use Rattle.rows.specs.declared.Found.the-variants.{At}
 use Rattle.circuits.specs.Circuits.{idAt}
 use Rattle.ports.specs.Ports.{closed, delegated, answers, within}
 use Rattle.pool.specs.Pool.{committedOf}
-use Rattle.card.specs.declared.Card.{Card}
-use Rattle.card.specs.Cards.{portAt, withPort}
+use Rattle.card.specs.Cards.{Card, portAt, withPort}
 use Rattle.card.specs.Outcome.{Outcome, keeps, becomes, writes}
 use Rattle.transfers.specs.Transfers.{reducedTo, transferFails, transferGives, reallocated, transferred}
 use Rattle.messages.specs.Messages.{isAnswer}

@@ -15,7 +15,7 @@ use Rattle.rows.specs.declared.Found.{Found}
 use Rattle.rows.specs.declared.Found.the-variants.{At, Nothing}
 use Rattle.checks.specs.Table.{enclosedOf, refusedOf}
 use Rattle.control.specs.Control.{commandsIn}
-use Rattle.card.specs.declared.Card.{Card}
+use Rattle.card.specs.Cards.{Card}
 use Rattle.demand3.specs.Calls.{Tables}
 use Rattle.demand3.specs.Reads.{kindIn, resultIn, portIn, amountIn, enclosedIn}
 use Rattle.demand3.specs.Ledger.{Line, Ledger, write, withDelegation, actedIn, actsAll, writeAt, messageEntry}

@@ -19,8 +19,7 @@ use Rattle.rows.specs.declared.Found.the-variants.{At, Nothing}
 use Rattle.channels.specs.Channels.{isRow, channelOf}
 use Rattle.sums.proofs.Sums.{sumTo-ext}
 use Rattle.pool.specs.Pool.{isActive, hasFlow, countOf, extrasOf, committedOf}
-use Rattle.card.specs.declared.Card.{Card}
-use Rattle.card.specs.Cards.{isPort, hasPort, portAt}
+use Rattle.card.specs.Cards.{Card, isPort, hasPort, portAt}
 use Rattle.card.specs.Figures.{upOf, delegationOf, committedAt}
 use Rattle.listing.specs.Listing.{activeRow, activeAt}
 use Rattle.demand3.specs.Calls.{Tables}
@@ -47,7 +46,7 @@ module _ (t : Tables) (card : Card) (l : Ledger) (a : Agree t card l) where
     committed-is = a .at p port .flows (rateWeight (t .channels)) ∙ charges-sum t (l p) (a .at p port .rows)
 
     -- the row of a flow, found by the card's own count of channels, tells whether it is active
-    pub active-row : (f : Flow) → activeRow (card .pool) p (channelOf (t .channels) (card .«channel_count») f) ≡ holds f (l p .flows)
+    pub active-row : (f : Flow) → activeRow (card .pool) p (channelOf (t .channels) (card .head .«channel_count») f) ≡ holds f (l p .flows)
     unfolding activeRow
     active-row f = ap (λ (n : ℕ). activeRow (card .pool) p (channelOf (t .channels) n f)) (a .channels) ∙ go (found t f) refl
       where
@@ -66,7 +65,7 @@ module _ (t : Tables) (card : Card) (l : Ledger) (a : Agree t card l) where
 
     pub has-port : hasPort card p ≡ true
     unfolding isPort
-    has-port = every-by (ltb p 64 ∷ ltb p (card .«port_count») ∷ []) (lt-ltb p 64 below, (lt-ltb p (card .«port_count») (omega (arith, a .ports)), tt))
+    has-port = every-by (ltb p 64 ∷ ltb p (card .head .«port_count») ∷ []) (lt-ltb p 64 below, (lt-ltb p (card .head .«port_count») (omega (arith, a .ports)), tt))
 
     pub reads-up : upOf card p ≡ l p .isUp
     unfolding upOf
@@ -83,7 +82,7 @@ module _ (t : Tables) (card : Card) (l : Ledger) (a : Agree t card l) where
     pub reads-active : (f : Flow) → activeAt (t .channels) card p f ≡ holds f (l p .flows)
     unfolding activeAt
     reads-active f =
-        ap (λ (b : Bool). cond b (activeRow (card .pool) p (channelOf (t .channels) (card .«channel_count») f)) false) has-port ∙ active-row p below f
+        ap (λ (b : Bool). cond b (activeRow (card .pool) p (channelOf (t .channels) (card .head .«channel_count») f)) false) has-port ∙ active-row p below f
 
     pub reads-once : Once (l p .flows)
     reads-once = a .at p below .once

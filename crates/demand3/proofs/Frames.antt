@@ -1,12 +1,11 @@
--- What the entry of a call leaves as it is.
---     entered-other        the line of every port that the call does not name
---     entered-delegation   every delegation, unless the call is set delegation, a 146, or a 147 with Result 3
---     lines-kept           calls that name other ports, behind any list of calls
+-- What the entry of a call leaves as it is of port p's line (`Frame`).
+--     kept-frame, line-frame, set-frame      where it is the ledger itself, a line written, a delegation set
+--     message-frame                          of a message
 -- Assumes nothing.
 use Prim.Native.Nat.{ℕ}
 use mathlib.Core.Path.{_≡_, refl, sym, ap, subst, _∙_}
 use mathlib.Core.Bool.{Bool, true, false, cond, _&&_, _||_}
-use mathlib.Core.List.{List, [], _∷_, _++_}
+use mathlib.Core.List.{List}
 use mathlib.Core.Logic.{inl, inr}
 use lib.ListN.{drop}
 use lib.Dec.{eqb}
@@ -15,16 +14,15 @@ use Rattle.octets.proofs.Tests.{both}
 use Rattle.rows.specs.declared.Found.{Found}
 use Rattle.rows.specs.declared.Found.the-variants.{At, Nothing}
 use Rattle.control.specs.Control.{commandsIn}
-use Rattle.card.specs.declared.Card.{Card}
-use Rattle.demand3.specs.Calls.{Tables, Call, ours, outcomeOf, seen, history}
-use Rattle.demand3.specs.Calls.Call.{portUp, portDown, setDelegation, join, leave, ask, message}
+use Rattle.card.specs.Cards.{Card}
+use Rattle.demand3.specs.Calls.{Tables, Call, outcomeOf, byCall}
+use Rattle.demand3.specs.Calls.Call.{setDelegation, message}
 use Rattle.demand3.specs.Reads.{kindIn, resultIn, portIn, amountIn}
-use Rattle.demand3.specs.Ledger.{Line, Ledger, write, withDelegation, actedIn, actsAll, writeAt, messageEntry, entry, entered, ledgerFrom}
-use Rattle.demand3.specs.Corollaries.{Names, NoneNames, Moves}
+use Rattle.demand3.specs.Ledger.{Line, Ledger, write, withDelegation, actedIn, actsAll, writeAt, messageEntry, entry}
+use Rattle.demand3.specs.Corollaries.{Names, Moves}
 use Rattle.demand3.proofs.Agree.{Agree, TablesTaken, same-or-not, write-same, write-other}
 use Rattle.demand3.proofs.Command.{all-keep}
 use Rattle.demand3.proofs.Transfers.{reply-147}
-use Rattle.demand3.proofs.Calls.{call-step}
 
 -- ---- a line written
 module _ (l : Ledger) (p : ℕ) where
@@ -45,6 +43,37 @@ module _ (l : Ledger) (p : ℕ) where
   unfolding writeAt
   at-delegation Nothing change e = refl
   at-delegation (At q) change e = delegation-written q (change (l q)) (e (l q))
+
+-- x is no set delegation for port p, and no message that may set a delegation
+abbrev pub NotSet : Call → ℕ → Type 0
+NotSet x p = (amount : ℕ) → x ≡ setDelegation p amount → ⊥
+
+abbrev pub NotMoved : Call → Type 0
+NotMoved x = (m : List ℕ) (room : ℕ) → x ≡ message m room → Moves m → ⊥
+
+pub record Frame (t : Tables) (l : Ledger) (x : Call) (reply : List ℕ) (p : ℕ) : Type 0 where
+  pub other : (Names t x p → ⊥) → entry t l x reply p ≡ l p
+  pub delegation : NotSet x p → NotMoved x → entry t l x reply p .delegation ≡ l p .delegation
+
+module _ (t : Tables) (l : Ledger) (x : Call) (reply : List ℕ) (p : ℕ) where
+  pub kept-frame : entry t l x reply ≡ l → Frame t l x reply p
+  kept-frame e = record { other = λ n. ap (λ (m : Ledger). m p) e; delegation = λ s m. ap (λ (m : Ledger). m p .delegation) e }
+
+  -- the call is about port q
+  module _ (q : ℕ) (names : q ≡ p → Names t x p) (y : Line) (e : entry t l x reply ≡ write l q y) where
+    another : (Names t x p → ⊥) → entry t l x reply p ≡ l p
+    another n = ap (λ (m : Ledger). m p) e ∙ write-other l q y p (λ s. n (names (sym s)))
+
+    pub line-frame : y .delegation ≡ l q .delegation → Frame t l x reply p
+    line-frame d = record { other = another; delegation = λ s m. ap (λ (m : Ledger). m p .delegation) e ∙ delegation-written l p q y d }
+
+    pub set-frame : (amount : ℕ) → x ≡ setDelegation q amount → Frame t l x reply p
+    set-frame amount is =
+        record {
+          other = another;
+          delegation = λ s m. ap (λ (m : Ledger). m p .delegation) e
+              ∙ ap (λ (z : Line). z .delegation) (write-other l q y p (λ (k : p ≡ q). s amount (is ∙ ap (λ (i : ℕ). setDelegation i amount) (sym k))));
+        }
 
 module _ (t : Tables) (taken : TablesTaken t) (p : ℕ) where
   module _ (card : Card) (l : Ledger) (a : Agree t card l) where
@@ -89,56 +118,7 @@ module _ (t : Tables) (taken : TablesTaken t) (p : ℕ) where
               at-delegation l p (portIn t m) _ (λ x. all-keep t (λ (y : Line). y .delegation) (λ y hs. refl) x (actedIn reply (commandsIn (drop 16 m))))
           go false e false s false = refl
 
-    -- ---- any call
-    entry-other : (x : Call) → (Names t x p → ⊥) → entry t l x (outcomeOf t card x .reply) p ≡ l p
-    unfolding entry Names
-    entry-other (portUp q) n = write-other l q _ p (λ e. n (sym e))
-    entry-other (portDown q) n = write-other l q _ p (λ e. n (sym e))
-    entry-other (setDelegation q amount) n = write-other l q _ p (λ e. n (sym e))
-    entry-other (join q f room) n = write-other l q _ p (λ e. n (sym e))
-    entry-other (leave q f) n = write-other l q _ p (λ e. n (sym e))
-    entry-other (ask q required preferred room) n = refl
-    entry-other (message m room) n = message-other m room n
-
-    entry-delegation : (x : Call) → ((amount : ℕ) → x ≡ setDelegation p amount → ⊥) → ((m : List ℕ) (room : ℕ) → x ≡ message m room → Moves m → ⊥)
-        → entry t l x (outcomeOf t card x .reply) p .delegation ≡ l p .delegation
-    unfolding entry
-    entry-delegation (portUp q) n k = delegation-written l p q _ refl
-    entry-delegation (portDown q) n k = delegation-written l p q _ refl
-    entry-delegation (setDelegation q amount) n k =
-        ap (λ (x : Line). x .delegation) (write-other l q _ p (λ (e : p ≡ q). n amount (ap (λ (i : ℕ). setDelegation i amount) (sym e))))
-    entry-delegation (join q f room) n k = delegation-written l p q _ refl
-    entry-delegation (leave q f) n k = delegation-written l p q _ refl
-    entry-delegation (ask q required preferred room) n k = refl
-    entry-delegation (message m room) n k = message-delegation m room (k m room refl)
-
-    -- ---- what is entered: only number 0 changes it
-    entered-other : (x : Call) → (Names t x p → ⊥) → entered t l (seen ours t card x) p ≡ l p
-    unfolding entered
-    entered-other x n = go (eqb (outcomeOf t card x .number) 0)
-      where
-        go : (b : Bool) → cond b (entry t l x (outcomeOf t card x .reply)) l p ≡ l p
-        go true = entry-other x n
-        go false = refl
-
-    pub entered-delegation : (x : Call) → ((amount : ℕ) → x ≡ setDelegation p amount → ⊥) → ((m : List ℕ) (room : ℕ) → x ≡ message m room → Moves m → ⊥)
-        → entered t l (seen ours t card x) p .delegation ≡ l p .delegation
-    unfolding entered
-    entered-delegation x n k = go (eqb (outcomeOf t card x .number) 0)
-      where
-        go : (b : Bool) → cond b (entry t l x (outcomeOf t card x .reply)) l p .delegation ≡ l p .delegation
-        go true = entry-delegation x n k
-        go false = refl
-
-  -- ---- lists of calls
-  none-enter : (ys : List Call) (card : Card) (l : Ledger) → Agree t card l → NoneNames t ys p → ledgerFrom t l (history ours t card ys) p ≡ l p
-  unfolding history ledgerFrom NoneNames
-  none-enter [] card l a n = refl
-  none-enter (y ∷ ys) card l a n =
-      none-enter ys (outcomeOf t card y .card) (entered t l (seen ours t card y)) (call-step t taken card l a y) (n .1) ∙ entered-other card l a y (n .0)
-
-  pub lines-kept : (xs ys : List Call) (card : Card) (l : Ledger) → Agree t card l → NoneNames t ys p
-      → ledgerFrom t l (history ours t card (xs ++ ys)) p ≡ ledgerFrom t l (history ours t card xs) p
-  unfolding history ledgerFrom
-  lines-kept [] ys card l a n = none-enter ys card l a n
-  lines-kept (x ∷ xs) ys card l a n = lines-kept xs ys (outcomeOf t card x .card) (entered t l (seen ours t card x)) (call-step t taken card l a x) n
+      -- a message's
+      pub message-frame : Frame t l (message m room) reply p
+      unfolding entry Names byCall
+      message-frame = record { other = message-other; delegation = λ set moved. message-delegation (moved m room refl) }

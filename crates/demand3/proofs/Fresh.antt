@@ -15,10 +15,8 @@ use Rattle.ports.specs.Ports.{freshPort}
 use Rattle.pool.proofs.Whole.{whole-fresh}
 use Rattle.pool.proofs.Law.{owned-fresh, extras-fresh}
 use Rattle.pool.proofs.Pools.{pool-fresh}
-use Rattle.card.specs.declared.Card.{Card}
-use Rattle.card.specs.declared.Started.{Started}
-use Rattle.card.specs.Cards.{portAt}
-use Rattle.card.specs.Start.{freshCard, firstOk, startOf}
+use Rattle.card.specs.Cards.{Card, portAt}
+use Rattle.card.specs.Start.{Started, freshCard, firstOk, startOf}
 use Rattle.sums.specs.Sums.{sumBy}
 use Rattle.demand3.specs.Calls.{Tables, startedOf}
 use Rattle.demand3.specs.Ledger.{opened}

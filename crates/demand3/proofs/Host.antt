@@ -19,8 +19,7 @@ use Rattle.ports.specs.declared.Port.{Port}
 use Rattle.ports.specs.Ports.{broughtUp, takenDown, delegated, asked, mayAsk}
 use Rattle.ports.specs.Transactions.{takenFrom}
 use Rattle.pool.specs.Pool.{hasFlow, committedOf, endedFlow, endedAll}
-use Rattle.card.specs.declared.Card.{Card}
-use Rattle.card.specs.Cards.{isPort, hasPort, portAt, withPort, withPool}
+use Rattle.card.specs.Cards.{Card, isPort, hasPort, portAt, withPort, withPool}
 use Rattle.card.specs.Outcome.{Outcome, keeps, becomes}
 use Rattle.card.specs.Calls.{portUpOf, portDownOf, setDelegationOf, leaveFlow, leaveOf}
 use Rattle.joins.specs.Asks.{askedOf, askOf}
@@ -44,7 +43,7 @@ module _ (t : Tables) (l m : Ledger) where
 
 pub on-port : (card : Card) (p : ℕ) → hasPort card p ≡ true → p < 64
 unfolding isPort
-on-port card p h = ltb-true p 64 (each (ltb p 64 ∷ ltb p (card .«port_count») ∷ []) h .0)
+on-port card p h = ltb-true p 64 (each (ltb p 64 ∷ ltb p (card .head .«port_count») ∷ []) h .0)
 
 -- a port that was up is down, and its request closed
 abbrev down : Port → Port
@@ -140,13 +139,13 @@ module _ (t : Tables) (card : Card) (l : Ledger) (a : Agree t card l) (p : ℕ) 
     unfolding askedOf mayAsk
     asked-step port may =
         let b = a .at p port in
-        let y = asked (portAt card p) required preferred (takenFrom (card .counter) .number) in
+        let y = asked (portAt card p) required preferred (takenFrom (card .head .counter) .number) in
         let more = ltb-true (portAt card p .delegation) required (each (ltb (portAt card p .delegation) required ∷ leb required preferred ∷ not (portAt card p .asking) ∷ []) may .0) in
         counter-step t (withPort card p y) l
         (agree-as t (write-back l p)
         (port-step t card l a p port y (l p .isUp) (l p .delegation)
         (record { is-up = b .is-up; delegation = b .delegation; bounded = b .bounded; idle = b .idle; asks-more = λ z. more })))
-        (takenFrom (card .counter) .next)
+        (takenFrom (card .head .counter) .next)
 
     pub ask-step : (room : ℕ) → Agree t (outcomeOf t card (ask p required preferred room) .card) (entered t l (seen ours t card (ask p required preferred room)))
     unfolding outcomeOf entered entry askOf askedOf

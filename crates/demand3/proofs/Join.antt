@@ -21,8 +21,7 @@ use Rattle.lists.specs.declared.Decision.the-variants.{Black, Grey, White, None
 use Rattle.lists.specs.Lists.{listDecision}
 use Rattle.ports.specs.Transactions.{takenFrom}
 use Rattle.pool.specs.Pool.{isActive, began}
-use Rattle.card.specs.declared.Card.{Card}
-use Rattle.card.specs.Cards.{hasPort, portAt, withPool}
+use Rattle.card.specs.Cards.{Card, hasPort, portAt, withPool}
 use Rattle.card.specs.Outcome.{Outcome, keeps, becomes}
 use Rattle.joins.specs.Joins.{admitNumber, whiteOf, greyOf, byList, joinRow, joinOf}
 use Rattle.listing.specs.Listing.{activeAt}
@@ -43,10 +42,10 @@ module _ (t : Tables) (card : Card) (l : Ledger) (a : Agree t card l) (p : ℕ) 
   begun = write l p (begins (l p) f (t .whiteCac))
 
   abbrev admission : ℕ → ℕ
-  admission k = admitNumber (t .channels) card (card .«white_cac») p k
+  admission k = admitNumber (t .channels) card (card .head .«white_cac») p k
 
   abbrev started : ℕ → Outcome
-  started k = becomes (withPool card (began (card .pool) p k (card .«white_cac») 0))
+  started k = becomes (withPool card (began (card .pool) p k (card .head .«white_cac») 0))
 
   -- ---- card and ledger agree behind it
   module _ (port : p < 64) (up : portAt card p .up ≡ true) (k : ℕ) (e : found t f ≡ At k) (idle : isActive (card .pool) p k ≡ false) where
@@ -60,7 +59,7 @@ module _ (t : Tables) (card : Card) (l : Ledger) (a : Agree t card l) (p : ℕ) 
     list-step : (d : Decision) → Goes t l begun (byList (t .ids) (t .channels) card p f k d)
     unfolding byList greyOf
     list-step White = white-step
-    list-step Grey = counter-step t card l a (takenFrom (card .counter) .next)
+    list-step Grey = counter-step t card l a (takenFrom (card .head .counter) .next)
     list-step Black = a
     list-step None = a
 
@@ -68,7 +67,7 @@ module _ (t : Tables) (card : Card) (l : Ledger) (a : Agree t card l) (p : ℕ) 
   unfolding joinRow
   row-step port up Nothing e = a
   row-step port up (At k) e =
-      let d = listDecision (t .entries) (card .«entry_count») f in
+      let d = listDecision (t .entries) (card .head .«entry_count») f in
       goes-by t l begun (isActive (card .pool) p k) (keeps card 1) (byList (t .ids) (t .channels) card p f k d) (λ h. a) (λ h. list-step port up k e h d)
 
   -- the outcome past the refusals for buffer, port, state and address
@@ -79,12 +78,12 @@ module _ (t : Tables) (card : Card) (l : Ledger) (a : Agree t card l) (p : ℕ) 
     pub join-step : Agree t (outcomeOf t card (join p f room) .card) (entered t l (seen ours t card (join p f room)))
     unfolding outcomeOf entered entry joinOf
     join-step =
-        let good = cond (goodFlow f) (row (card .«channel_count»)) (keeps card 8) in
+        let good = cond (goodFlow f) (row (card .head .«channel_count»)) (keeps card 8) in
         let up = cond (portAt card p .up) good (keeps card 6) in
         goes-by t l begun (ltb room 4608) (keeps card 13) (cond (hasPort card p) up (keeps card 7)) (λ r. a)
         (λ r. goes-by t l begun (hasPort card p) up (keeps card 7)
         (λ h. goes-by t l begun (portAt card p .up) good (keeps card 6)
-        (λ u. goes-by t l begun (goodFlow f) (row (card .«channel_count»)) (keeps card 8)
+        (λ u. goes-by t l begun (goodFlow f) (row (card .head .«channel_count»)) (keeps card 8)
         (λ g. subst (λ (n : ℕ). Goes t l begun (row n)) (sym (a .channels)) (row-step (on-port card p h) u (found t f) refl))
         (λ g. a)) (λ u. a)) (λ h. a))
 
@@ -101,8 +100,8 @@ module _ (t : Tables) (card : Card) (l : Ledger) (a : Agree t card l) (p : ℕ) 
       pub join-white : (k : ℕ) → found t f ≡ At k → joinOf (t .ids) (t .channels) (t .entries) card p f room ≡ whiteOf (t .channels) card p k
       unfolding joinOf joinRow byList
       join-white k e =
-          let found-here : channelOf (t .channels) (card .«channel_count») f ≡ At k = ap (λ (n : ℕ). channelOf (t .channels) n f) (a .channels) ∙ e in
-          let decided : listDecision (t .entries) (card .«entry_count») f ≡ White = ap (λ (n : ℕ). listDecision (t .entries) n f) (a .entries) ∙ white in
+          let found-here : channelOf (t .channels) (card .head .«channel_count») f ≡ At k = ap (λ (n : ℕ). channelOf (t .channels) n f) (a .channels) ∙ e in
+          let decided : listDecision (t .entries) (card .head .«entry_count») f ≡ White = ap (λ (n : ℕ). listDecision (t .entries) n f) (a .entries) ∙ white in
           rw (le-ltb room 4608 large, has-port t card l a taken p (w .port), a .at p port .is-up ∙ w .is-up, is-good k e, found-here, active-is t card l a p port f k e ∙ w .idle, decided)
 
       -- its number is 0 exactly where admission's is

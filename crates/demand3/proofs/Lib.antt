@@ -17,11 +17,12 @@ pub mod Delegations
 pub mod Messages
 pub mod Reached
 pub mod Adds
-pub mod Calls
 pub mod Transfers
 pub mod Ways
-pub mod Quiet
 pub mod Frames
+pub mod Each
+pub mod Calls
+pub mod Quiet
 pub mod Requests
 pub mod Closed
 pub mod Corollaries

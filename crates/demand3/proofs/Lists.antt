@@ -26,7 +26,7 @@ use Rattle.sums.specs.Sums.{sumBy}
 use Rattle.sums.proofs.Sums.{test-most}
 use Rattle.pool.specs.Pool.{rowsOf}
 use Rattle.pool.proofs.Lists.{rows-sum, rows-length}
-use Rattle.card.specs.declared.Card.{Card}
+use Rattle.card.specs.Cards.{Card}
 use Rattle.listing.specs.Listing.{rowBefore, inOrder, Ordered, rowsInOrder, flowsAt}
 use Rattle.listing.specs.Listing.Ordered.{more}
 use Rattle.listing.proofs.Ordering.{listed-by}

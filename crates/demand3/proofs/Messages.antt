@@ -14,7 +14,7 @@ use Rattle.fields.specs.Fields.{requestIn}
 use Rattle.rows.specs.declared.Found.{Found}
 use Rattle.rows.specs.declared.Found.the-variants.{At}
 use Rattle.circuits.specs.Circuits.{idAt, portOf}
-use Rattle.card.specs.declared.Card.{Card}
+use Rattle.card.specs.Cards.{Card}
 use Rattle.card.specs.Outcome.{Outcome}
 use Rattle.checks.specs.Table.{idIn, resultOk}
 use Rattle.control.specs.Control.{commandsIn, controlled}
@@ -44,7 +44,7 @@ module _ (t : Tables) (card : Card) (l : Ledger) (a : Agree t card l) (m : List 
     port-one = port-below (t .ids) (t .ports) (idIn (drop 16 m)) names-port .0
 
     pub port-below-64 : p < 64
-    port-below-64 = port-below (t .ids) (card .«port_count») (idIn (drop 16 m)) (s .found) .1
+    port-below-64 = port-below (t .ids) (card .head .«port_count») (idIn (drop 16 m)) (s .found) .1
 
     line-up : l p .isUp ≡ true
     line-up = sym (a .at p port-below-64 .is-up) ∙ s .up

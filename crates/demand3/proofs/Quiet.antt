@@ -2,7 +2,7 @@
 use mathlib.Core.Path.{_≡_, refl}
 use mathlib.Core.List.{[]}
 use Rattle.circuits.specs.Circuits.{idAt}
-use Rattle.card.specs.declared.Card.{Card}
+use Rattle.card.specs.Cards.{Card}
 use Rattle.card.specs.Outcome.{Outcome}
 use Rattle.joins.specs.Joins.{greyOf}
 use Rattle.joins.specs.Asks.{askedOf}
@@ -10,7 +10,8 @@ use Rattle.control.specs.Control.{commandsIn, controlled}
 use Rattle.transfers.specs.Transfers.{transferGives}
 use Rattle.demand3.specs.Calls.{Tables, Call, outcomeOf}
 use Rattle.demand3.proofs.Commands.{commands-tell}
-use Rattle.demand3.proofs.Ways.{Way, stays, replies, rises, falls, sets, closes, reduces, asks, flows, commanded, grey, call-way}
+use Rattle.demand3.proofs.Ways.{Way, stays, replies, rises, falls, sets, closes, reduces, asks, beside, commanded, grey}
+use Rattle.demand3.proofs.Each.{call-way}
 
 module _ (t : Tables) (card : Card) (x : Call) where
   abbrev Quiet : Outcome → Type 0
@@ -26,7 +27,7 @@ module _ (t : Tables) (card : Card) (x : Call) where
   way-quiet o (closes p) a b = absurd (a refl)
   way-quiet o (reduces h p amount) a b = absurd (a refl)
   way-quiet o (asks p required preferred room e u) a b = absurd (a refl)
-  way-quiet o (flows pool) a b = absurd (a refl)
+  way-quiet o (beside card′ e) a b = absurd (a refl)
   way-quiet o (commanded h p s) a b = absurd (a (commands-tell (t .channels) h (idAt (t .ids) p) p card 1 (commandsIn s) .number))
   way-quiet o (grey p f) a b = absurd (b refl)
 

@@ -19,7 +19,7 @@ use Rattle.tlv.specs.Depth.{depthOf}
 use Rattle.items.specs.Items.{Item, itemsOf, ofType, countOf, firstOf}
 use Rattle.fields.specs.Fields.{circuitIds, lengthOk}
 use Rattle.circuits.specs.Circuits.{portOf}
-use Rattle.card.specs.declared.Card.{Card}
+use Rattle.card.specs.Cards.{Card}
 use Rattle.checks.specs.declared.Verdict.the-variants.{Refused, Passed}
 use Rattle.checks.specs.Named.{beside, needed, missing, singleOf, fromFault}
 use Rattle.checks.specs.Table.{handled, resultOk, idIn, located, faults, namedRows, tableOf}
@@ -86,7 +86,7 @@ module _ (t : Tables) (card : Card) (l : Ledger) (a : Agree t card l) (m : List 
   some-target e = omega (arith, r .target)
 
   module _ (up : l p .isUp ≡ true) where
-    located-there : located card (portOf (t .ids) (card .«port_count») (idIn s)) ≡ Passed p
+    located-there : located card (portOf (t .ids) (card .head .«port_count») (idIn s)) ≡ Passed p
     unfolding located portIn
     located-there =
         ap (λ (n : ℕ). located card (portOf (t .ids) n (idIn s))) (a .ports)

@@ -22,25 +22,23 @@ use Rattle.ports.specs.Ports.{freshPort, broughtUp, takenDown, closed, delegate
 use Rattle.ports.specs.Transactions.{takenFrom}
 use Rattle.flows.specs.declared.Flow.{Flow}
 use Rattle.pool.specs.Pool.{isActive, hasFlow}
-use Rattle.card.specs.declared.Card.{Card}
-use Rattle.card.specs.Cards.{portAt, withPort}
+use Rattle.card.specs.Cards.{Card, portAt, withPort}
 use Rattle.card.specs.Outcome.{Outcome, becomes, writes}
 use Rattle.joins.specs.Joins.{admitNumber, greyOf}
 use Rattle.joins.specs.Asks.{askedOf}
 use Rattle.commands.specs.Orders.{Order, orderOf}
 use Rattle.commands.specs.Orders.Order.{ill, add, delete, deleteAll}
-use Rattle.commands.specs.declared.Ran.{Ran}
-use Rattle.commands.specs.Commands.{addNew, addRow, deleteFlow, obeyed, ranOf}
+use Rattle.commands.specs.Commands.{Ran, addNew, addRow, deleteFlow, obeyed, ranOf}
 use Rattle.control.specs.Control.{failureOf, allGood, commandsFrom, commandsIn, controlled}
 use Rattle.transfers.specs.Transfers.{transferGives}
-use Rattle.demand3.specs.Calls.{Tables, Call, ours, outcomeOf, cardAfter, seen}
+use Rattle.demand3.specs.Calls.{Tables, Call, ours, outcomeOf, cardAfter, seen, byCall}
 use Rattle.demand3.specs.Calls.Call.{ask}
 use Rattle.demand3.specs.Ledger.{Ledger, entered}
 use Rattle.demand3.specs.Corollaries.{Asks, NoneAsks}
 use Rattle.demand3.proofs.Agree.{Agree, TablesTaken, same-or-not}
 use Rattle.demand3.proofs.Steps.{port-set}
-use Rattle.demand3.proofs.Ways.{Way, stays, replies, rises, falls, sets, closes, reduces, asks, flows, commanded, grey, call-way}
-use Rattle.demand3.proofs.Calls.{call-step}
+use Rattle.demand3.proofs.Ways.{Way, stays, replies, rises, falls, sets, closes, reduces, asks, beside, commanded, grey}
+use Rattle.demand3.proofs.Each.{call-way, call-step}
 
 -- ---- commands keep every port's record
 module _ (channels : List ℕ) (p : ℕ) where
@@ -53,7 +51,7 @@ module _ (channels : List ℕ) (p : ℕ) where
     unfolding addRow addNew
     add-ports v Nothing = refl
     add-ports v (At k) =
-        ran-by card (isActive (card .pool) p k) _ _ refl (ran-by card (eqb (admitNumber channels card (card .«add_cac») p k) 0) _ _ refl refl)
+        ran-by card (isActive (card .pool) p k) _ _ refl (ran-by card (eqb (admitNumber channels card (card .head .«add_cac») p k) 0) _ _ refl refl)
 
     delete-ports : (f : Flow) → deleteFlow channels card p f .card .ports ≡ card .ports
     unfolding deleteFlow
@@ -62,7 +60,7 @@ module _ (channels : List ℕ) (p : ℕ) where
     obeyed-ports : (o : Order) → obeyed channels card p o .card .ports ≡ card .ports
     unfolding obeyed
     obeyed-ports (ill code) = refl
-    obeyed-ports (add f v) = add-ports v (channelOf channels (card .«channel_count») f)
+    obeyed-ports (add f v) = add-ports v (channelOf channels (card .head .«channel_count») f)
     obeyed-ports (delete f) = delete-ports f
     obeyed-ports deleteAll = refl
 
@@ -118,8 +116,8 @@ module _ (t : Tables) (taken : TablesTaken t) (p : ℕ) (below : p < 64) (R : Po
     way-keeps x n o (closes q) = written q _ (λ e. s .close (portAt card q))
     way-keeps x n o (reduces h q amount) = written q _ (λ e. s .give (portAt card q) amount)
     way-keeps x n o (asks q required preferred room is up) =
-        written q _ (λ e z. n q required preferred room is e (portAt card q) up (takenFrom (card .counter) .number))
-    way-keeps x n o (flows pool) = r
+        written q _ (λ e z. n q required preferred room is e (portAt card q) up (takenFrom (card .head .counter) .number))
+    way-keeps x n o (beside card′ e) = subst (λ (ps : List Port). R (getD ps p freshPort)) (sym e) r
     way-keeps x n o (commanded h q w) =
         subst (λ (ps : List Port). R (getD ps p freshPort)) (sym (commands-ports (t .channels) q h (idAt (t .ids) q) card 1 (commandsIn w))) r
     way-keeps x n o (grey q f) = r
@@ -173,7 +171,7 @@ down-survives =
 
 module _ (t : Tables) (taken : TablesTaken t) (p : ℕ) (below : p < 64) where
   not-opened : (x : Call) → (Asks x p → ⊥) → Opens t taken p below Closed closed-survives x
-  unfolding Asks
+  unfolding Asks byCall
   not-opened x n q required preferred room e same y u k = absurd (n (subst (λ (z : Call). Asks z p) (sym e) same))
 
   none-opened : (xs : List Call) → NoneAsks xs p → AllOpen t taken p below Closed closed-survives xs

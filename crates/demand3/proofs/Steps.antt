@@ -9,7 +9,7 @@ use mathlib.Core.Path.{_≡_, refl, sym, ap, subst, _∙_}
 use mathlib.Core.Bool.{Bool, true, false}
 use mathlib.Core.List.{List, []}
 use native.Mathlib.Omega.{arith}
-use lib.ListN.{length, length-set}
+use lib.ListN.{length, getD, length-set}
 use lib.Seq.{getD-set-same, getD-set-other}
 use Rattle.ports.specs.declared.Port.{Port}
 use Rattle.ports.specs.declared.Counter.{Counter}
@@ -18,8 +18,7 @@ use Rattle.pool.specs.declared.Pool.{Pool}
 use Rattle.pool.specs.Pool.{poolSum, extrasOf}
 use Rattle.pool.proofs.Whole.{Whole}
 use Rattle.pool.proofs.Law.{Owned}
-use Rattle.card.specs.declared.Card.{Card}
-use Rattle.card.specs.Cards.{portAt, withPort, withPool, withCounter}
+use Rattle.card.specs.Cards.{Card, portAt, withPort, withPool, withCounter}
 use Rattle.demand3.specs.Calls.{Tables}
 use Rattle.demand3.specs.Ledger.{Held, Line, Ledger, write, withFlows}
 use Rattle.demand3.specs.Claim.{charges, Once}
@@ -71,21 +70,43 @@ carried t old new x q same sums b =
       asks-more = subst AsksMore same (b .asks-more);
     }
 
+-- what a card keeps of its start
+pub record Given : Type 0 where
+  ports : ℕ
+  channels : ℕ
+  entries : ℕ
+  white : Bool
+  add : Bool
+
+abbrev pub givenOf : Card → Given
+givenOf card =
+    record {
+      ports = card .head .«port_count»;
+      channels = card .head .«channel_count»;
+      entries = card .head .«entry_count»;
+      white = card .head .«white_cac»;
+      add = card .head .«add_cac»;
+    }
+
 module _ (t : Tables) (card : Card) (l : Ledger) (a : Agree t card l) where
-  pub counter-step : (c : Counter) → Agree t (withCounter card c) l
-  counter-step c =
+  -- what demand 3 does not speak of changes: the counter, the layout, the words
+  pub beside-step : (card′ : Card) → card′ .ports ≡ card .ports → card′ .pool ≡ card .pool → givenOf card′ ≡ givenOf card → Agree t card′ l
+  beside-step card′ ports pool s =
       record {
-        ports = a .ports;
-        channels = a .channels;
-        entries = a .entries;
-        white = a .white;
-        add = a .add;
-        records = a .records;
-        whole = a .whole;
-        owned = a .owned;
-        extras = a .extras;
-        at = λ q h. carried t card (withCounter card c) (l q) q refl (λ w. refl) (a .at q h);
+        ports = ap (λ (g : Given). g .ports) s ∙ a .ports;
+        channels = ap (λ (g : Given). g .channels) s ∙ a .channels;
+        entries = ap (λ (g : Given). g .entries) s ∙ a .entries;
+        white = ap (λ (g : Given). g .white) s ∙ a .white;
+        add = ap (λ (g : Given). g .add) s ∙ a .add;
+        records = ap length ports ∙ a .records;
+        whole = subst Whole (sym pool) (a .whole);
+        owned = subst (λ (x : Pool). Owned (x .owner)) (sym pool) (a .owned);
+        extras = subst (λ (x : Pool). extrasOf x ≤ 256) (sym pool) (a .extras);
+        at = λ q h. carried t card card′ (l q) q (ap (λ (xs : List Port). getD xs q freshPort) (sym ports)) (λ w. ap (λ (x : Pool). poolSum x q w) pool) (a .at q h);
       }
+
+  pub counter-step : (c : Counter) → Agree t (withCounter card c) l
+  counter-step c = beside-step (withCounter card c) refl refl refl
 
   module _ (p : ℕ) (port : p < 64) where
     module _ (pool : Pool) (hs : List Held) where

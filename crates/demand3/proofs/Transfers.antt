@@ -20,8 +20,7 @@ use Rattle.rows.specs.declared.Found.the-variants.{At}
 use Rattle.circuits.specs.Circuits.{idAt, portOf}
 use Rattle.ports.specs.Ports.{closed, delegated, answers, within}
 use Rattle.pool.specs.Pool.{committedOf}
-use Rattle.card.specs.declared.Card.{Card}
-use Rattle.card.specs.Cards.{portAt, withPort}
+use Rattle.card.specs.Cards.{Card, portAt, withPort}
 use Rattle.card.specs.Outcome.{Outcome, keeps, becomes}
 use Rattle.checks.specs.Table.{idIn, enclosedOf}
 use Rattle.control.specs.Control.{commandsIn, controlled}
@@ -122,7 +121,7 @@ module _ (t : Tables) (card : Card) (l : Ledger) (a : Agree t card l) (taken : T
 pub at-eq : {q p : ℕ} → At q ≡ At p → q ≡ p
 at-eq e = cc
 
-module _ (t : Tables) (card : Card) (ports : card .«port_count» ≡ t .ports) (p : ℕ) (none : p < 64 → portAt card p .asking ≡ false) where
+module _ (t : Tables) (card : Card) (ports : card .head .«port_count» ≡ t .ports) (p : ℕ) (none : p < 64 → portAt card p .asking ≡ false) where
   came-none : (m : List ℕ) → kindIn m ≡ 147 → portIn t m ≡ At p → (o : Outcome) → Came (t .ids) (t .channels) card m o → o .number ≡ 0 → ⊥
   unfolding kindIn portIn
   came-none m kind port o (kept n z) e = z e
@@ -132,11 +131,11 @@ module _ (t : Tables) (card : Card) (ports : card .«port_count» ≡ t .ports) 
   came-none m kind port o (reduced q k s) e = omega arith
   came-none m kind port o (queried reply g n k) e = n kind
   came-none m kind port o (answered q k r s) e =
-      let found : portOf (t .ids) (card .«port_count») (idIn (drop 16 m)) ≡ At p = ap (λ (n : ℕ). portOf (t .ids) n (idIn (drop 16 m))) ports ∙ port in
+      let found : portOf (t .ids) (card .head .«port_count») (idIn (drop 16 m)) ≡ At p = ap (λ (n : ℕ). portOf (t .ids) n (idIn (drop 16 m))) ports ∙ port in
       let same : q ≡ p = at-eq (sym (s .found) ∙ found) in
       let asks = transferred-open card (headerIn m) q (allocationIn (firstOf 0x0015 (itemsOf (drop 16 m)))) e in
       false≢true
-      (sym (none (port-below (t .ids) (card .«port_count») (idIn (drop 16 m)) found .1)) ∙ ap (λ (i : ℕ). portAt card i .asking) (sym same) ∙ asks)
+      (sym (none (port-below (t .ids) (card .head .«port_count») (idIn (drop 16 m)) found .1)) ∙ ap (λ (i : ℕ). portAt card i .asking) (sym same) ∙ asks)
 
   pub takes-none : TakesNone t card p
   unfolding outcomeOf

@@ -19,8 +19,7 @@ use Rattle.fields.specs.Fields.{allocationIn, requestIn}
 use Rattle.rows.specs.declared.Found.the-variants.{At}
 use Rattle.circuits.specs.Circuits.{idAt, portOf}
 use Rattle.circuits.proofs.Circuits.{port-found}
-use Rattle.card.specs.declared.Card.{Card}
-use Rattle.card.specs.Cards.{portAt}
+use Rattle.card.specs.Cards.{Card, portAt}
 use Rattle.card.specs.Outcome.{Outcome, keeps, writes}
 use Rattle.checks.specs.declared.Verdict.{Verdict}
 use Rattle.checks.specs.declared.Verdict.the-variants.{Refused, Passed}

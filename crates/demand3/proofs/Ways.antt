@@ -1,4 +1,4 @@
--- What any call comes to on any card, taken apart once: the ends that there are. Assumes nothing.
+-- What a call comes to on any card: the ends that there are (`Way`), and those of each call (`up-way`, ..). Assumes nothing.
 use Prim.Native.Nat.{ℕ}
 use mathlib.Core.Path.{_≡_, refl}
 use mathlib.Core.Bool.{Bool, true, false, cond}
@@ -16,10 +16,8 @@ use Rattle.lists.specs.declared.Decision.{Decision}
 use Rattle.lists.specs.declared.Decision.the-variants.{Black, Grey, White, None}
 use Rattle.lists.specs.Lists.{listDecision}
 use Rattle.ports.specs.Ports.{broughtUp, takenDown, closed, delegated, mayAsk, answers, within}
-use Rattle.pool.specs.declared.Pool.{Pool}
 use Rattle.pool.specs.Pool.{isActive, hasFlow, committedOf, endedAll}
-use Rattle.card.specs.declared.Card.{Card}
-use Rattle.card.specs.Cards.{hasPort, portAt, withPort, withPool}
+use Rattle.card.specs.Cards.{Card, hasPort, portAt, withPort, withPool}
 use Rattle.card.specs.Outcome.{Outcome, keeps, becomes, writes}
 use Rattle.card.specs.Calls.{portUpOf, portDownOf, setDelegationOf, leaveFlow, leaveOf}
 use Rattle.joins.specs.Joins.{admitNumber, whiteOf, greyOf, byList, joinRow, joinOf}
@@ -44,8 +42,8 @@ module _ (t : Tables) (card : Card) (x : Call) where
     closes : (p : ℕ) → Way (becomes (withPort card p (closed (portAt card p))))
     reduces : (h : Header) (p amount : ℕ) → Way (transferGives (t .ids) card h p amount)
     asks : (p required preferred room : ℕ) → x ≡ ask p required preferred room → portAt card p .up ≡ true → Way (askedOf (t .ids) card p required preferred)
-    -- flows begin or end, by the host or by commands
-    flows : (pool : Pool) → Way (becomes (withPool card pool))
+    -- no port's record changes: flows begin or end, by the host or by commands
+    beside : (card′ : Card) → card′ .ports ≡ card .ports → Way (becomes card′)
     commanded : (h : Header) (p : ℕ) (s : List ℕ) → Way (controlled (t .ids) (t .channels) card h p s)
     -- a transaction number is used
     grey : (p : ℕ) (f : Flow) → Way (greyOf (t .ids) card p f)
@@ -54,21 +52,21 @@ module _ (t : Tables) (card : Card) (x : Call) where
   by true v w f g = f refl
   by false v w f g = g
 
-  leave-way : (p : ℕ) (f : Flow) → Way (leaveFlow (t .channels) card p f)
+  flow-way : (p : ℕ) (f : Flow) → Way (leaveFlow (t .channels) card p f)
   unfolding leaveFlow
-  leave-way p f = by (hasFlow (t .channels) (card .pool) p f) _ _ (λ e. flows _) (stays 10)
+  flow-way p f = by (hasFlow (t .channels) (card .pool) p f) _ _ (λ e. beside _ refl) (stays 10)
 
   list-way : (p : ℕ) (f : Flow) (k : ℕ) (d : Decision) → Way (byList (t .ids) (t .channels) card p f k d)
   unfolding byList whiteOf
-  list-way p f k White = by (eqb (admitNumber (t .channels) card (card .«white_cac») p k) 0) _ _ (λ e. flows _) (stays _)
+  list-way p f k White = by (eqb (admitNumber (t .channels) card (card .head .«white_cac») p k) 0) _ _ (λ e. beside _ refl) (stays _)
   list-way p f k Grey = grey p f
   list-way p f k Black = stays 3
   list-way p f k None = stays 3
 
-  join-way : (p : ℕ) (f : Flow) (r : Found) → Way (joinRow (t .ids) (t .channels) (t .entries) card p f r)
+  row-way : (p : ℕ) (f : Flow) (r : Found) → Way (joinRow (t .ids) (t .channels) (t .entries) card p f r)
   unfolding joinRow
-  join-way p f Nothing = stays 9
-  join-way p f (At k) = by (isActive (card .pool) p k) _ _ (λ e. stays 1) (list-way p f k (listDecision (t .entries) (card .«entry_count») f))
+  row-way p f Nothing = stays 9
+  row-way p f (At k) = by (isActive (card .pool) p k) _ _ (λ e. stays 1) (list-way p f k (listDecision (t .entries) (card .head .«entry_count») f))
 
   reduced-way : (h : Header) (p : ℕ) (o : Outcome) → Reallocation (t .ids) (t .channels) card h p o → Way o
   unfolding transferFails
@@ -92,33 +90,50 @@ module _ (t : Tables) (card : Card) (x : Call) where
   came-way m o (queried reply g n e) = replies reply
   came-way m o (answered p k a s) = transferred-way (headerIn m) p _
 
-  way : (y : Call) → x ≡ y → Way (outcomeOf t card y)
-  unfolding outcomeOf portUpOf portDownOf setDelegationOf leaveOf joinOf askOf
-  way (portUp p) e = by (hasPort card p) _ _ (λ h. rises p) (stays 7)
-  way (portDown p) e = by (hasPort card p) _ _ (λ h. by (portAt card p .up) _ _ (λ u. falls p) (stays 0)) (stays 7)
-  way (setDelegation p amount) e =
-      by (hasPort card p) _ _ (λ h. by (leb (committedOf (t .channels) (card .pool) p) amount) _ _ (λ c. sets p amount) (stays 11)) (stays 7)
-  way (join p f room) e =
-      by (ltb room 4608) _ _ (λ r. stays 13)
-      (by (hasPort card p) _ _
-      (λ h. by (portAt card p .up) _ _
-      (λ u. by (goodFlow f) _ _ (λ g. join-way p f (channelOf (t .channels) (card .«channel_count») f)) (stays 8))
-      (stays 6))
-      (stays 7))
-  way (leave p f) e =
-      by (hasPort card p) _ _
-      (λ h. by (portAt card p .up) _ _
-      (λ u. by (goodFlow f) _ _ (λ g. leave-way p f) (stays 8))
-      (stays 6))
-      (stays 7)
-  way (ask p required preferred room) e =
-      by (ltb room 4608) _ _ (λ r. stays 13)
-      (by (hasPort card p) _ _
-      (λ h. by (portAt card p .up) _ _
-      (λ u. by (mayAsk (portAt card p) required preferred) _ _ (λ m. asks p required preferred room e u) (stays 12))
-      (stays 6))
-      (stays 7))
-  way (message m room) e = came-way m (receivedOf (t .ids) (t .channels) card m room) (came (t .ids) (t .channels) card m room)
+  -- ---- the calls
+  module _ (p : ℕ) where
+    pub up-way : Way (outcomeOf t card (portUp p))
+    unfolding outcomeOf portUpOf
+    up-way = by (hasPort card p) _ _ (λ h. rises p) (stays 7)
 
-  pub call-way : Way (outcomeOf t card x)
-  call-way = way x refl
+    pub down-way : Way (outcomeOf t card (portDown p))
+    unfolding outcomeOf portDownOf
+    down-way = by (hasPort card p) _ _ (λ h. by (portAt card p .up) _ _ (λ u. falls p) (stays 0)) (stays 7)
+
+    pub delegation-way : (amount : ℕ) → Way (outcomeOf t card (setDelegation p amount))
+    unfolding outcomeOf setDelegationOf
+    delegation-way amount =
+        by (hasPort card p) _ _ (λ h. by (leb (committedOf (t .channels) (card .pool) p) amount) _ _ (λ c. sets p amount) (stays 11)) (stays 7)
+
+    pub join-way : (f : Flow) (room : ℕ) → Way (outcomeOf t card (join p f room))
+    unfolding outcomeOf joinOf
+    join-way f room =
+        by (ltb room 4608) _ _ (λ r. stays 13)
+        (by (hasPort card p) _ _
+        (λ h. by (portAt card p .up) _ _
+        (λ u. by (goodFlow f) _ _ (λ g. row-way p f (channelOf (t .channels) (card .head .«channel_count») f)) (stays 8))
+        (stays 6))
+        (stays 7))
+
+    pub leave-way : (f : Flow) → Way (outcomeOf t card (leave p f))
+    unfolding outcomeOf leaveOf
+    leave-way f =
+        by (hasPort card p) _ _
+        (λ h. by (portAt card p .up) _ _
+        (λ u. by (goodFlow f) _ _ (λ g. flow-way p f) (stays 8))
+        (stays 6))
+        (stays 7)
+
+    pub ask-way : (required preferred room : ℕ) → x ≡ ask p required preferred room → Way (outcomeOf t card (ask p required preferred room))
+    unfolding outcomeOf askOf
+    ask-way required preferred room e =
+        by (ltb room 4608) _ _ (λ r. stays 13)
+        (by (hasPort card p) _ _
+        (λ h. by (portAt card p .up) _ _
+        (λ u. by (mayAsk (portAt card p) required preferred) _ _ (λ m. asks p required preferred room e u) (stays 12))
+        (stays 6))
+        (stays 7))
+
+  pub message-way : (m : List ℕ) (room : ℕ) → Way (outcomeOf t card (message m room))
+  unfolding outcomeOf
+  message-way m room = came-way m (receivedOf (t .ids) (t .channels) card m room) (came (t .ids) (t .channels) card m room)

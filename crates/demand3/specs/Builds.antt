@@ -7,12 +7,11 @@ use lib.ListN.{drop}
 use lib.Dec.{eqb}
 use Rattle.rows.specs.declared.Found.{Found}
 use Rattle.rows.specs.declared.Found.the-variants.{At, Nothing}
-use Rattle.card.specs.declared.Card.{Card}
+use Rattle.card.specs.Cards.{Card}
 use Rattle.card.specs.Outcome.{Outcome, keeps}
 use Rattle.commands.specs.Commands.{ranOf}
 use Rattle.control.specs.Control.{commandsIn}
-use Rattle.demand3.specs.Calls.{Tables, Call, Build, ours, outcomeOf}
-use Rattle.demand3.specs.Calls.Call.{portUp, portDown, setDelegation, join, leave, ask, message}
+use Rattle.demand3.specs.Calls.{Tables, Call, Build, ours, outcomeOf, ofJoin, ofMessage}
 use Rattle.demand3.specs.Reads.{kindIn, portIn}
 use Rattle.demand3.specs.Claim.{Claim}
 
@@ -31,13 +30,7 @@ calling outcome =
 
 -- refuses every join, as if it were black
 unfoldable pub refusing : Tables → Card → Call → Outcome
-refusing t card (join p f room) = keeps card 3
-refusing t card (portUp p) = outcomeOf t card (portUp p)
-refusing t card (portDown p) = outcomeOf t card (portDown p)
-refusing t card (setDelegation p amount) = outcomeOf t card (setDelegation p amount)
-refusing t card (leave p f) = outcomeOf t card (leave p f)
-refusing t card (ask p required preferred room) = outcomeOf t card (ask p required preferred room)
-refusing t card (message m room) = outcomeOf t card (message m room)
+refusing t card x = ofJoin (λ p f room. keeps card 3) (outcomeOf t card x) x
 
 -- keeps one answer: 0 and no reply, whatever is called
 unfoldable pub agreeable : Tables → Card → Call → Outcome
@@ -54,20 +47,16 @@ firstRun t card (c ∷ cs) Nothing = card
 firstRun t card (c ∷ cs) (At p) = ranOf (t .channels) card p c .card
 
 unfoldable pub firstOnly : Tables → Card → Call → Outcome
-firstOnly t card (message m room) =
-    cond (eqb (kindIn m) 144)
+firstOnly t card x =
+    ofMessage
+    (λ m room. cond (eqb (kindIn m) 144)
     (record {
       card = firstRun t card (commandsIn (drop 16 m)) (portIn t m);
-      number = outcomeOf t card (message m room) .number;
-      reply = outcomeOf t card (message m room) .reply;
+      number = outcomeOf t card x .number;
+      reply = outcomeOf t card x .reply;
     })
-    (outcomeOf t card (message m room))
-firstOnly t card (join p f room) = outcomeOf t card (join p f room)
-firstOnly t card (portUp p) = outcomeOf t card (portUp p)
-firstOnly t card (portDown p) = outcomeOf t card (portDown p)
-firstOnly t card (setDelegation p amount) = outcomeOf t card (setDelegation p amount)
-firstOnly t card (leave p f) = outcomeOf t card (leave p f)
-firstOnly t card (ask p required preferred room) = outcomeOf t card (ask p required preferred room)
+    (outcomeOf t card x))
+    (outcomeOf t card x) x
 
 -- invents the committed amount
 abbrev pub inventing : Build
@@ -97,13 +86,7 @@ forgetful =
 
 -- refuses every message as unusable
 unfoldable pub deaf : Tables → Card → Call → Outcome
-deaf t card (message m room) = keeps card 15
-deaf t card (join p f room) = outcomeOf t card (join p f room)
-deaf t card (portUp p) = outcomeOf t card (portUp p)
-deaf t card (portDown p) = outcomeOf t card (portDown p)
-deaf t card (setDelegation p amount) = outcomeOf t card (setDelegation p amount)
-deaf t card (leave p f) = outcomeOf t card (leave p f)
-deaf t card (ask p required preferred room) = outcomeOf t card (ask p required preferred room)
+deaf t card x = ofMessage (λ m room. keeps card 15) (outcomeOf t card x) x
 
 pub record Worthless : Type 0 where
   pub refuses-every-join : Claim (calling refusing) → ⊥

@@ -3,12 +3,13 @@ use Prim.Native.Nat.{ℕ}
 use mathlib.Core.Bool.{Bool}
 use mathlib.Core.List.{List, [], _∷_, map}
 use Rattle.flows.specs.declared.Flow.{Flow}
+use Rattle.rows.specs.declared.Found.{Found}
+use Rattle.rows.specs.declared.Found.the-variants.{At}
 use Rattle.channels.specs.Channels.{channelAt}
-use Rattle.card.specs.declared.Card.{Card}
-use Rattle.card.specs.declared.Started.{Started}
+use Rattle.card.specs.Cards.{Card}
+use Rattle.card.specs.Start.{Started, startOf}
 use Rattle.card.specs.Outcome.{Outcome}
 use Rattle.card.specs.Calls.{portUpOf, portDownOf, setDelegationOf, leaveOf}
-use Rattle.card.specs.Start.{startOf}
 use Rattle.card.specs.Figures.{upOf, delegationOf, committedAt}
 use Rattle.joins.specs.Joins.{joinOf}
 use Rattle.joins.specs.Asks.{askOf}
@@ -90,3 +91,20 @@ seen b t card x = record { call = x; number = b .outcome t card x .number; reply
 unfoldable pub history : Build → Tables → Card → List Call → List Seen
 history b t card [] = []
 history b t card (x ∷ xs) = seen b t card x ∷ history b t (b .outcome t card x .card) xs
+
+-- ---- what some statements single out: a join, the host's asking, a message; and any other call, by the port that it is about, if it is about one
+unfoldable pub byCall {ℓ} : {A : Type ℓ} → (ℕ → Flow → ℕ → A) → (ℕ → A) → (List ℕ → ℕ → A) → (Found → A) → Call → A
+byCall joins asks told other (join p f room) = joins p f room
+byCall joins asks told other (ask p required preferred room) = asks p
+byCall joins asks told other (message m room) = told m room
+byCall joins asks told other (portUp p) = other (At p)
+byCall joins asks told other (portDown p) = other (At p)
+byCall joins asks told other (setDelegation p amount) = other (At p)
+byCall joins asks told other (leave p f) = other (At p)
+
+-- what is said of a join, and of every other call; the same of a message
+abbrev pub ofJoin : {A : Type 0} → (ℕ → Flow → ℕ → A) → A → Call → A
+ofJoin read other = byCall read (λ p. other) (λ m room. other) (λ q. other)
+
+abbrev pub ofMessage : {A : Type 0} → (List ℕ → ℕ → A) → A → Call → A
+ofMessage read other = byCall (λ p f room. other) (λ p. other) read (λ q. other)

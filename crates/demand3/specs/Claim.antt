@@ -13,7 +13,7 @@ use Rattle.items.specs.Items.{countOf, firstOf}
 use Rattle.fields.specs.Fields.{circuitIds}
 use Rattle.tables.specs.Tables.{tablesOk}
 use Rattle.sums.specs.Sums.{sumTo, sumBy}
-use Rattle.card.specs.declared.Card.{Card}
+use Rattle.card.specs.Cards.{Card}
 use Rattle.card.specs.Outcome.{Outcome}
 use Rattle.demand3.specs.Reads.{At, Order, ill, add, delete, deleteAll, orderOf, commandsIn, kindIn, resultIn, tlvsIn, portIn, listed, rateOf, isWhite}
 use Rattle.demand3.specs.Calls.{Tables, Call, Build, cardAfter, history}

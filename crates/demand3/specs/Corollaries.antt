@@ -13,22 +13,16 @@ use Rattle.replies.specs.Replies.{replyHeader}
 use Rattle.flow_octets.specs.FlowOctets.{flowTlv}
 use Rattle.circuits.specs.Circuits.{idAt}
 use Rattle.rows.specs.declared.Found.the-variants.{At}
-use Rattle.card.specs.declared.Card.{Card}
-use Rattle.demand3.specs.Calls.{Tables, Call, ours, outcomeOf, startedOf, cardAfter, history}
-use Rattle.demand3.specs.Calls.Call.{portUp, portDown, setDelegation, join, leave, ask, message}
+use Rattle.card.specs.Cards.{Card}
+use Rattle.demand3.specs.Calls.{Tables, Call, ours, outcomeOf, startedOf, cardAfter, history, byCall}
+use Rattle.demand3.specs.Calls.Call.{portDown, setDelegation, join, message}
 use Rattle.demand3.specs.Reads.{kindIn, resultIn, portIn, rateOf, isWhite}
 use Rattle.demand3.specs.Ledger.{Ledger, opened, ledgerFrom}
 use Rattle.demand3.specs.Claim.{charges, Wanted, Sound, Reaches, behind, Acted}
 
 -- a call is about port p
 unfoldable pub Names : Tables → Call → ℕ → Type 0
-Names t (portUp q) p = q ≡ p
-Names t (portDown q) p = q ≡ p
-Names t (setDelegation q amount) p = q ≡ p
-Names t (join q f room) p = q ≡ p
-Names t (leave q f) p = q ≡ p
-Names t (ask q required preferred room) p = q ≡ p
-Names t (message m room) p = portIn t m ≡ At p
+Names t x p = byCall (λ q f room. q ≡ p) (λ q. q ≡ p) (λ m room. portIn t m ≡ At p) (λ q. q ≡ At p) x
 
 unfoldable pub NoneNames : Tables → List Call → ℕ → Type 0
 NoneNames t [] p = Unit {0}
@@ -62,13 +56,7 @@ TakesNone t card p = (m : List ℕ) (room : ℕ) → kindIn m ≡ 147 → portIn
 
 -- the host asks for port p
 unfoldable pub Asks : Call → ℕ → Type 0
-Asks (portUp q) p = ⊥
-Asks (portDown q) p = ⊥
-Asks (setDelegation q amount) p = ⊥
-Asks (join q f room) p = ⊥
-Asks (leave q f) p = ⊥
-Asks (ask q required preferred room) p = q ≡ p
-Asks (message m room) p = ⊥
+Asks x p = byCall (λ q f room. ⊥) (λ q. q ≡ p) (λ m room. ⊥) (λ q. ⊥) x
 
 unfoldable pub NoneAsks : List Call → ℕ → Type 0
 NoneAsks [] p = Unit {0}

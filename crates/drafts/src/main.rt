@@ -8,8 +8,9 @@
 mod start;
 mod text;
 
-use card::Card;
-use card::Done;
+use calls::HostCall;
+use card::Core;
+use card::Returned;
 use flows::Flow;
 use start::Tables;
 
@@ -26,14 +27,14 @@ fn main() {
     }
 }
 
-fn line(card: Card, t: Tables, s: &[u8]) -> Card {
+fn line(core: Core, t: Tables, s: &[u8]) -> Core {
     let v = text::until(s, 0, b' ') + 1;
     if s.len() <= v {
-        return card;
+        return core;
     }
     let verb = s[v];
     if s[0] == b'#' {
-        return card;
+        return core;
     }
     let mut octets = [0u8; 4097];
     let n = hex::octets_of(text::from(s, v + 2), &mut octets);
@@ -41,31 +42,45 @@ fn line(card: Card, t: Tables, s: &[u8]) -> Card {
         return start::ready(t, octets[0] == 1);
     }
     let mut reply = [0u8; 4608];
-    let done = call(card, t, verb, &octets[..n], &mut reply);
+    let done = call(core, t, verb, &octets[..n], &mut reply);
     tell(text::first(s, v), done, &reply);
-    done.card
+    done.core
 }
 
-fn call(card: Card, t: Tables, verb: u8, o: &[u8], reply: &mut [u8]) -> Done {
+fn call(core: Core, t: Tables, verb: u8, o: &[u8], reply: &mut [u8]) -> Returned {
     let ids = t.ids;
     let channels = t.channels;
     let entries = t.entries;
+    if !known(verb) {
+        return Returned {
+            core,
+            number: 0,
+            length: 0,
+        };
+    }
+    calls::call(core, &ids, &channels, &entries, called(verb, o), o, reply)
+}
+
+fn known(verb: u8) -> bool {
+    match verb {
+        b'm' | b'j' | b'u' | b'x' | b'l' | b'd' | b'a' => true,
+        _ => false,
+    }
+}
+
+// The call of a verb; its arguments stand in the octets.
+fn called(verb: u8, o: &[u8]) -> HostCall {
     let p = octets::read8(o, 0) as usize;
     let x = text::number(o, 1);
     let y = text::number(o, 5);
     match verb {
-        b'm' => messages::message(card, &ids, &channels, o, reply),
-        b'j' => joins::join(card, &ids, &channels, &entries, p, flow(x, y), reply),
-        b'u' => card::port_up(card, p),
-        b'x' => card::port_down(card, p),
-        b'l' => card::leave(card, &channels, p, flow(x, y)),
-        b'd' => card::set_delegation(card, &channels, p, x),
-        b'a' => joins::ask(card, &ids, p, x, y, reply),
-        _ => Done {
-            card,
-            number: 0,
-            length: 0,
-        },
+        b'j' => calls::on_flow(calls::JOIN, p, flow(x, y)),
+        b'u' => calls::on_port(calls::PORT_UP, p, 0, 0),
+        b'x' => calls::on_port(calls::PORT_DOWN, p, 0, 0),
+        b'l' => calls::on_flow(calls::LEAVE, p, flow(x, y)),
+        b'd' => calls::on_port(calls::SET_DELEGATION, p, x, 0),
+        b'a' => calls::on_port(calls::ASK, p, x, y),
+        _ => calls::on_port(calls::MESSAGE, 0, 0, 0),
     }
 }
 
@@ -79,7 +94,7 @@ fn flow(group: u32, source: u32) -> Flow {
 }
 
 // The name and the space behind it, the number, and the reply if there is one.
-fn tell(name: &[u8], done: Done, reply: &[u8]) {
+fn tell(name: &[u8], done: Returned, reply: &[u8]) {
     io::write_all(1, name);
     io::print_decimal(1, done.number as u64);
     let n = done.length;

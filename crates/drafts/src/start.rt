@@ -1,5 +1,6 @@
 // The state in which the examples are played: ports, channels and lists of the sources.
-use card::Card;
+use calls::HostCall;
+use card::Core;
 
 pub struct Tables {
     pub ids: [u8; 4096],
@@ -16,19 +17,28 @@ pub fn filled() -> Tables {
 }
 
 // Four ports, White-List-CAC on, MRepCtl-CAC as asked, first transaction number 1.
-pub fn ready(t: Tables, add_cac: bool) -> Card {
+pub fn ready(t: Tables, add_cac: bool) -> Core {
     let ids = t.ids;
     let channels = t.channels;
     let entries = t.entries;
     let s = card::start(&ids, 4, &channels, 11, &entries, 5, true, add_cac, 1);
-    let c = up(up(up(up(s.card, 0), 1), 2), 3);
-    let d = card::set_delegation(c, &channels, 0, 2000);
-    d.card
+    let c = up(t, up(t, up(t, up(t, s.core, 0), 1), 2), 3);
+    host(t, c, calls::on_port(calls::SET_DELEGATION, 0, 2000, 0))
 }
 
-fn up(card: Card, p: usize) -> Card {
-    let d = card::port_up(card, p);
-    d.card
+fn up(t: Tables, core: Core, p: usize) -> Core {
+    host(t, core, calls::on_port(calls::PORT_UP, p, 0, 0))
+}
+
+// A call without octets, whose answer is not looked at.
+fn host(t: Tables, core: Core, call: HostCall) -> Core {
+    let ids = t.ids;
+    let channels = t.channels;
+    let entries = t.entries;
+    let octets = [0u8; 1];
+    let mut reply = [0u8; 1];
+    let d = calls::call(core, &ids, &channels, &entries, call, &octets, &mut reply);
+    d.core
 }
 
 fn circuit_ids() -> [u8; 4096] {

@@ -1,15 +1,18 @@
 // The card for a host in C. The start gives a card; one function carries out any call on the card where the host keeps it; the readers take
 // the card by value. include/ancp_card.h puts a name for each call above them.
 use calls::HostCall;
-use card::Card;
-use card::Started;
+use card::Fresh;
+use card::Core;
 use card::Terms;
 use flows::Flow;
 use pool::Rows;
 ghost use mathlib.Core.Path.{_≡_};
+ghost use mathlib.Core.List.{List};
+ghost use Prim.Native.Nat.{ℕ};
 ghost use lib.ListN.{length};
+ghost use Rattle.card.specs.Cards.{Areas, noAreas, cardOf};
 ghost use Rattle.pool.specs.Pool.{extrasOf, listed};
-ghost use Rattle.card.specs.Start.{startOf};
+ghost use Rattle.card.specs.Start.{startOf, StartGives};
 ghost use Rattle.card.specs.Figures.{upOf, delegationOf, committedAt};
 ghost use Rattle.listing.specs.Listing.{flowsAt, activeAt};
 ghost use Rattle.demand3.specs.Calls.{outcomeOf};
@@ -29,8 +32,8 @@ pub extern "C" fn ancp_card_started(
     white_cac: bool,
     add_cac: bool,
     first: u32,
-) -> Started
-    ensures { λ r. ⌜ r ≡ startOf (now (ids .entry)) ports (now (channels .entry)) «channel_count» (now (entries .entry)) «entry_count» «white_cac» «add_cac» first ⌝ }
+) -> Fresh
+    ensures { λ r. ⌜ StartGives (startOf (now (ids .entry)) ports (now (channels .entry)) «channel_count» (now (entries .entry)) «entry_count» «white_cac» «add_cac» first) r noAreas noAreas ⌝ }
 {
     card::start(
         ids,
@@ -58,7 +61,7 @@ pub struct Answer {
 // updated where it is stored; the rest of what a call needs is copied into its terms.
 #[no_mangle]
 pub extern "C" fn ancp_card_call(
-    card: &mut Card,
+    core: &mut Core,
     ids: &[u8; 4096],
     channels: &[u32; 2816],
     entries: &[u32; 1536],
@@ -66,36 +69,28 @@ pub extern "C" fn ancp_card_call(
     octets: &[u8],
     reply: &mut [u8],
 ) -> Answer
-    ensures { λ r. ⌜ Answers (outcomeOf (tablesOf (now (card .entry)) (now (ids .entry)) (now (channels .entry)) (now (entries .entry))) (now (card .entry)) (callOf call (now (octets .entry)) (length (now (reply .entry))))) r (now (card .exit)) (now (reply .entry)) (now (reply .exit)) ⌝ }
+    ensures { λ r. ⌜ Answers (outcomeOf (tablesOf (cardOf (now (core .entry)) noAreas) (now (ids .entry)) (now (channels .entry)) (now (entries .entry))) (cardOf (now (core .entry)) noAreas) (callOf call (now (octets .entry)) (length (now (reply .entry))))) r (cardOf (now (core .exit)) noAreas) (now (reply .entry)) (now (reply .exit)) ⌝ }
 {
-    let p = calls::port_of(ids, card.port_count, call, octets);
+    let head = core.head;
+    let p = calls::port_of(ids, head.port_count, call, octets);
     let at = card::slot(p);
-    let x = card.ports[at];
+    let x = core.ports[at];
     let r = calls::call_in(
-        &mut card.pool.owner,
-        &mut card.pool.channel,
-        &mut card.pool.charged,
-        &mut card.pool.accounting,
+        &mut core.pool.owner,
+        &mut core.pool.channel,
+        &mut core.pool.charged,
+        &mut core.pool.accounting,
         ids,
         channels,
         entries,
-        Terms {
-            at,
-            port_count: card.port_count,
-            channel_count: card.channel_count,
-            entry_count: card.entry_count,
-            white_cac: card.white_cac,
-            add_cac: card.add_cac,
-            counter: card.counter,
-            x,
-        },
+        Terms { at, head, x },
         p,
         call,
         octets,
         reply,
     );
-    ports::update(&mut card.ports[at], r.change);
-    card.counter = r.counter;
+    ports::update(&mut core.ports[at], r.change);
+    core.head = r.head;
     Answer {
         number: r.number,
         length: r.length,
@@ -105,50 +100,50 @@ pub extern "C" fn ancp_card_call(
 // ---- what a host may read
 
 #[no_mangle]
-pub extern "C" fn ancp_card_up_in(card: Card, p: usize) -> bool
-    ensures { λ r. ⌜ r ≡ upOf card p ⌝ }
+pub extern "C" fn ancp_card_up_in(core: Core, p: usize) -> bool
+    ensures { λ r. ⌜ ((areas : Areas) → r ≡ upOf (cardOf core areas) p) ⌝ }
 {
-    card::is_up(card, p)
+    card::is_up(core, p)
 }
 
 #[no_mangle]
-pub extern "C" fn ancp_card_delegation_in(card: Card, p: usize) -> u32
-    ensures { λ r. ⌜ r ≡ delegationOf card p ⌝ }
+pub extern "C" fn ancp_card_delegation_in(core: Core, p: usize) -> u32
+    ensures { λ r. ⌜ ((areas : Areas) → r ≡ delegationOf (cardOf core areas) p) ⌝ }
 {
-    card::delegation(card, p)
+    card::delegation(core, p)
 }
 
 #[no_mangle]
-pub extern "C" fn ancp_card_committed_in(card: Card, channels: &[u32; 2816], p: usize) -> u64
-    ensures { λ r. ⌜ r ≡ committedAt (now (channels .entry)) card p ⌝ }
+pub extern "C" fn ancp_card_committed_in(core: Core, channels: &[u32; 2816], p: usize) -> u64
+    ensures { λ r. ⌜ ((areas : Areas) → r ≡ committedAt (now (channels .entry)) (cardOf core areas) p) ⌝ }
 {
-    card::committed(card, channels, p)
+    card::committed(core, channels, p)
 }
 
 #[no_mangle]
-pub extern "C" fn ancp_card_flows_in(card: Card, channels: &[u32; 2816], p: usize) -> Rows
-    ensures { λ r. ⌜ r ≡ listed (flowsAt (now (channels .entry)) card p) ⌝ }
+pub extern "C" fn ancp_card_flows_in(core: Core, channels: &[u32; 2816], p: usize) -> Rows
+    ensures { λ r. ⌜ ((areas : Areas) → r ≡ listed (flowsAt (now (channels .entry)) (cardOf core areas) p)) ⌝ }
 {
-    listing::flows_of(card, channels, p)
+    listing::flows_of(core, channels, p)
 }
 
 #[no_mangle]
-pub extern "C" fn ancp_card_active_in(card: Card, channels: &[u32; 2816], p: usize, f: Flow) -> bool
-    ensures { λ r. ⌜ r ≡ activeAt (now (channels .entry)) card p f ⌝ }
+pub extern "C" fn ancp_card_active_in(core: Core, channels: &[u32; 2816], p: usize, f: Flow) -> bool
+    ensures { λ r. ⌜ ((areas : Areas) → r ≡ activeAt (now (channels .entry)) (cardOf core areas) p f) ⌝ }
 {
-    listing::is_active(card, channels, p, f)
+    listing::is_active(core, channels, p, f)
 }
 
 #[no_mangle]
-pub extern "C" fn ancp_card_extras_in(card: Card) -> usize
-    ensures { λ r. ⌜ r ≡ extrasOf (card .pool) ⌝ }
+pub extern "C" fn ancp_card_extras_in(core: Core) -> usize
+    ensures { λ r. ⌜ r ≡ extrasOf (core .pool) ⌝ }
 {
-    card::extras(card)
+    card::extras(core)
 }
 
 #[no_mangle]
-pub extern "C" fn ancp_card_next_in(card: Card) -> u32
-    ensures { λ r. ⌜ r ≡ card .counter .number ⌝ }
+pub extern "C" fn ancp_card_next_in(core: Core) -> u32
+    ensures { λ r. ⌜ r ≡ core .head .counter .number ⌝ }
 {
-    card::next_transaction(card)
+    card::next_transaction(core)
 }

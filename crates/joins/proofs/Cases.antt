@@ -14,8 +14,7 @@ use Rattle.lists.specs.declared.Decision.{Decision}
 use Rattle.lists.specs.Lists.{listDecision}
 use Rattle.pool.specs.Pool.{isActive, began}
 use Rattle.ports.specs.Ports.{mayAsk}
-use Rattle.card.specs.declared.Card.{Card}
-use Rattle.card.specs.Cards.{hasPort, portAt, withPool}
+use Rattle.card.specs.Cards.{Card, hasPort, portAt, withPool}
 use Rattle.card.specs.Outcome.{Outcome, keeps, becomes}
 use Rattle.joins.specs.Joins.{admitNumber, whiteOf, byList, joinRow, joinOf}
 use Rattle.joins.specs.Asks.{askedOf, askOf}
@@ -52,7 +51,7 @@ module _ (card : Card) (p room : ℕ) (next : Outcome) where
 
 module _ (ids channels entries : List ℕ) (card : Card) (p : ℕ) (f : Flow) (room : ℕ) where
   abbrev row : Outcome
-  row = joinRow ids channels entries card p f (channelOf channels (card .«channel_count») f)
+  row = joinRow ids channels entries card p f (channelOf channels (card .head .«channel_count») f)
 
   abbrev past : Outcome
   past = cond (goodFlow f) row (keeps card 8)
@@ -107,12 +106,12 @@ module _ (ids : List ℕ) (card : Card) (p required preferred room : ℕ) where
 
 -- ---- a flow of channel k
 -- n is what admission answers
-module _ (channels : List ℕ) (card : Card) (p k : ℕ) {n : ℕ} (e : n ≡ admitNumber channels card (card .«white_cac») p k) where
+module _ (channels : List ℕ) (card : Card) (p k : ℕ) {n : ℕ} (e : n ≡ admitNumber channels card (card .head .«white_cac») p k) where
   abbrev number : ℕ
-  number = admitNumber channels card (card .«white_cac») p k
+  number = admitNumber channels card (card .head .«white_cac») p k
 
   abbrev begins : Outcome
-  begins = becomes (withPool card (began (card .pool) p k (card .«white_cac») 0))
+  begins = becomes (withPool card (began (card .pool) p k (card .head .«white_cac») 0))
 
   pub white-refused : (n ≡ 0 → ⊥) → keeps card n ≡ whiteOf channels card p k
   unfolding whiteOf
@@ -128,11 +127,11 @@ module _ (ids channels entries : List ℕ) (card : Card) (p : ℕ) (f : Flow) (k
 
   pub row-1 : isActive (card .pool) p k ≡ true → keeps card 1 ≡ joinRow ids channels entries card p f (At k)
   unfolding joinRow
-  row-1 h = taken (isActive (card .pool) p k) (keeps card 1) (decides (listDecision entries (card .«entry_count») f)) h
+  row-1 h = taken (isActive (card .pool) p k) (keeps card 1) (decides (listDecision entries (card .head .«entry_count») f)) h
 
   -- d is what the lists decide
-  pub row-list : isActive (card .pool) p k ≡ false → {d x : Decision} → x ≡ listDecision entries (card .«entry_count») f → x ≡ d
+  pub row-list : isActive (card .pool) p k ≡ false → {d x : Decision} → x ≡ listDecision entries (card .head .«entry_count») f → x ≡ d
       → decides d ≡ joinRow ids channels entries card p f (At k)
   unfolding joinRow
   row-list h {d} e g =
-      ap decides (sym g ∙ e) ∙ left (isActive (card .pool) p k) (keeps card 1) (decides (listDecision entries (card .«entry_count») f)) h
+      ap decides (sym g ∙ e) ∙ left (isActive (card .pool) p k) (keeps card 1) (decides (listDecision entries (card .head .«entry_count») f)) h

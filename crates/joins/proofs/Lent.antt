@@ -4,7 +4,7 @@ use mathlib.Core.Bool.{Bool}
 use mathlib.Core.List.{List}
 use Prim.Native.Nat.{ℕ}
 use Rattle.pool.specs.Pool.{committedIn, committedOf, roomIn, hasRoom}
-use Rattle.card.specs.declared.Card.{Card}
+use Rattle.card.specs.Cards.{Card}
 use Rattle.joins.specs.Joins.{AsLent}
 
 module _ {card : Card} {owner channel : List ℕ} {charged : List Bool} {p amount : ℕ} (l : AsLent card owner channel charged p amount) where

@@ -6,8 +6,7 @@ use lib.Dec.{ltb}
 use Rattle.circuits.specs.Circuits.{idAt}
 use Rattle.ports.specs.Ports.{asked, mayAsk}
 use Rattle.ports.specs.Transactions.{takenFrom}
-use Rattle.card.specs.declared.Card.{Card}
-use Rattle.card.specs.Cards.{hasPort, portAt, withPort, withCounter}
+use Rattle.card.specs.Cards.{Card, hasPort, portAt, withPort, withCounter}
 use Rattle.card.specs.Outcome.{Outcome, keeps}
 use Rattle.begun.specs.Begun.{reallocationOf}
 
@@ -16,10 +15,10 @@ unfoldable pub askedOf : List ℕ → Card → ℕ → ℕ → ℕ → Outcome
 askedOf ids card p required preferred =
     record {
       card =
-          withCounter (withPort card p (asked (portAt card p) required preferred (takenFrom (card .counter) .number)))
-          (takenFrom (card .counter) .next);
+          withCounter (withPort card p (asked (portAt card p) required preferred (takenFrom (card .head .counter) .number)))
+          (takenFrom (card .head .counter) .next);
       number = 0;
-      reply = reallocationOf (takenFrom (card .counter) .number) (idAt ids p) required preferred;
+      reply = reallocationOf (takenFrom (card .head .counter) .number) (idAt ids p) required preferred;
     }
 
 unfoldable pub askOf : List ℕ → Card → ℕ → ℕ → ℕ → ℕ → Outcome

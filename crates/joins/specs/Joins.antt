@@ -15,8 +15,7 @@ use Rattle.lists.specs.Lists.{listDecision}
 use Rattle.circuits.specs.Circuits.{idAt}
 use Rattle.ports.specs.Transactions.{takenFrom}
 use Rattle.pool.specs.Pool.{isActive, committedOf, hasRoom, began}
-use Rattle.card.specs.declared.Card.{Card}
-use Rattle.card.specs.Cards.{hasPort, portAt, withPool, withCounter}
+use Rattle.card.specs.Cards.{Card, hasPort, portAt, withPool, withCounter}
 use Rattle.card.specs.Outcome.{Outcome, keeps, becomes}
 use Rattle.begun.specs.Begun.{admissionOf}
 
@@ -38,17 +37,17 @@ pub record AsLent (card : Card) (owners rows : List ℕ) (charges : List Bool) (
 -- white: the flow begins, charged exactly if White-List-CAC is on, with accounting 0
 unfoldable pub whiteOf : List ℕ → Card → ℕ → ℕ → Outcome
 whiteOf channels card p k =
-    cond (eqb (admitNumber channels card (card .«white_cac») p k) 0)
-    (becomes (withPool card (began (card .pool) p k (card .«white_cac») 0)))
-    (keeps card (admitNumber channels card (card .«white_cac») p k))
+    cond (eqb (admitNumber channels card (card .head .«white_cac») p k) 0)
+    (becomes (withPool card (began (card .pool) p k (card .head .«white_cac») 0)))
+    (keeps card (admitNumber channels card (card .head .«white_cac») p k))
 
 -- grey: Admission Control is written, ports and flows are kept, and a transaction number is used
 unfoldable pub greyOf : List ℕ → Card → ℕ → Flow → Outcome
 greyOf ids card p f =
     record {
-      card = withCounter card (takenFrom (card .counter) .next);
+      card = withCounter card (takenFrom (card .head .counter) .next);
       number = 2;
-      reply = admissionOf (takenFrom (card .counter) .number) (idAt ids p) f;
+      reply = admissionOf (takenFrom (card .head .counter) .number) (idAt ids p) f;
     }
 
 -- black or matched by no entry: ignored
@@ -61,7 +60,7 @@ byList ids channels card p f k None = keeps card 3
 unfoldable pub joinRow : List ℕ → List ℕ → List ℕ → Card → ℕ → Flow → Found → Outcome
 joinRow ids channels entries card p f Nothing = keeps card 9
 joinRow ids channels entries card p f (At k) =
-    cond (isActive (card .pool) p k) (keeps card 1) (byList ids channels card p f k (listDecision entries (card .«entry_count») f))
+    cond (isActive (card .pool) p k) (keeps card 1) (byList ids channels card p f k (listDecision entries (card .head .«entry_count») f))
 
 -- room: how many octets the lent reply buffer has
 unfoldable pub joinOf : List ℕ → List ℕ → List ℕ → Card → ℕ → Flow → ℕ → Outcome
@@ -70,7 +69,7 @@ joinOf ids channels entries card p f room =
     (cond (hasPort card p)
     (cond (portAt card p .up)
     (cond (goodFlow f)
-    (joinRow ids channels entries card p f (channelOf channels (card .«channel_count») f))
+    (joinRow ids channels entries card p f (channelOf channels (card .head .«channel_count») f))
     (keeps card 8))
     (keeps card 6))
     (keeps card 7))

@@ -1,6 +1,4 @@
 // The host's calls that may write a message: join and ask.
-use card::Card;
-use card::Done;
 use card::Effect;
 use card::Terms;
 use card::unchanged;
@@ -14,51 +12,12 @@ ghost use mathlib.Core.List.{List};
 ghost use Prim.Native.Nat.{ℕ, _≤_, _<_};
 ghost use lib.ListN.{length};
 ghost use Rattle.pool.specs.Pool.{poolOf, Whole};
-ghost use Rattle.card.specs.Outcome.{Ends};
+ghost use Rattle.card.specs.Cards.{Card};
 ghost use Rattle.card.specs.Parts.{ComesTo};
 ghost use Rattle.joins.specs.Joins.{fits, admitNumber, AsLent, whiteOf, greyOf, joinRow, joinOf};
 ghost use Rattle.joins.specs.Asks.{askedOf, askOf};
 
-pub fn join(
-    card: Card,
-    ids: &[u8; 4096],
-    channels: &[u32; 2816],
-    entries: &[u32; 1536],
-    p: usize,
-    f: Flow,
-    reply: &mut [u8],
-) -> Done
-    ensures { λ r. ⌜ Ends (joinOf (now (ids .entry)) (now (channels .entry)) (now (entries .entry)) card p f (length (now (reply .entry)))) r (now (reply .entry)) (now (reply .exit)) ⌝ }
-{
-    let at = card::slot(p);
-    let terms = card::terms_at(card, at);
-    let mut owner = card.pool.owner;
-    let mut channel = card.pool.channel;
-    let mut charged = card.pool.charged;
-    let mut accounting = card.pool.accounting;
-    let r = join_in(
-        &mut owner,
-        &mut channel,
-        &mut charged,
-        &mut accounting,
-        ids,
-        channels,
-        entries,
-        terms,
-        p,
-        f,
-        reply,
-    );
-    let pool = Pool {
-        owner,
-        channel,
-        charged,
-        accounting,
-    };
-    card::done_with(card, at, pool, r)
-}
-
-// The same on the parts of a card that it reads and writes: the maps become those of the card afterwards.
+// On the parts of a card that it reads and writes: the maps become those of the card afterwards.
 pub fn join_in(
     owner: &mut [u8; 512],
     channel: &mut [u8; 512],
@@ -78,7 +37,7 @@ pub fn join_in(
     if reply.len() < 4608 {
         return unchanged(terms, 13);
     }
-    if !card::is_port(terms.port_count, p) {
+    if !card::is_port(terms.head.port_count, p) {
         return unchanged(terms, 7);
     }
     let x = terms.x;
@@ -88,7 +47,7 @@ pub fn join_in(
     if !flows::good_flow(f) {
         return unchanged(terms, 8);
     }
-    let found = channels::channel_of(channels, terms.channel_count, f);
+    let found = channels::channel_of(channels, terms.head.channel_count, f);
     match found {
         Found::Nothing => unchanged(terms, 9),
         Found::At(k) => join_channel(
@@ -129,7 +88,7 @@ fn join_channel(
     if pool::is_active(owner, channel, p, k) {
         return unchanged(terms, 1);
     }
-    let decision = lists::list_decision(entries, terms.entry_count, f);
+    let decision = lists::list_decision(entries, terms.head.entry_count, f);
     match decision {
         Decision::White => join_white(owner, channel, charged, accounting, channels, terms, p, k),
         Decision::Grey => join_grey(ids, terms, p, f, reply),
@@ -154,7 +113,7 @@ fn join_white(
     ensures { λ r. ⌜ ((text : List ℕ) → ComesTo (λ card. whiteOf (now (channels .entry)) card p k) p terms (poolOf (now (owner .entry)) (now (channel .entry)) (now (charged .entry)) (now (accounting .entry))) (poolOf (now (owner .exit)) (now (channel .exit)) (now (charged .exit)) (now (accounting .exit))) r text text) ⌝ }
 {
     let x = terms.x;
-    let cac = terms.white_cac;
+    let cac = terms.head.white_cac;
     let number = admit_number(channels, owner, channel, charged, x.delegation, cac, p, k);
     if number != 0 {
         return unchanged(terms, number);
@@ -212,33 +171,18 @@ fn join_grey(ids: &[u8; 4096], terms: Terms, p: u8, f: Flow, reply: &mut [u8]) -
     requires { ⌜ (4608 ≤ length (now reply)) × (p < 64) ⌝ }
     ensures { λ r. ⌜ ((pool : Pool) → ComesTo (λ card. greyOf (now (ids .entry)) card p f) p terms pool pool r (now (reply .entry)) (now (reply .exit))) ⌝ }
 {
-    let counter = terms.counter;
+    let mut head = terms.head;
+    let counter = head.counter;
     let taken = counter.take();
     let next = taken.next;
+    head.counter = next;
     let n = begun::put_admission(reply, taken.number, circuits::id_at(ids, p), f);
     Effect {
         number: 2,
         length: n,
-        counter: next,
+        head,
         change: Change::Kept,
     }
-}
-
-pub fn ask(
-    card: Card,
-    ids: &[u8; 4096],
-    p: usize,
-    required: u32,
-    preferred: u32,
-    reply: &mut [u8],
-) -> Done
-    ensures { λ r. ⌜ Ends (askOf (now (ids .entry)) card p required preferred (length (now (reply .entry)))) r (now (reply .entry)) (now (reply .exit)) ⌝ }
-{
-    let at = card::slot(p);
-    let terms = card::terms_at(card, at);
-    let r = ask_in(ids, terms, p, required, preferred, reply);
-    let pool = card.pool;
-    card::done_with(card, at, pool, r)
 }
 
 // Whatever the maps hold: none of them is looked at.
@@ -255,7 +199,7 @@ pub fn ask_in(
     if reply.len() < 4608 {
         return unchanged(terms, 13);
     }
-    if !card::is_port(terms.port_count, p) {
+    if !card::is_port(terms.head.port_count, p) {
         return unchanged(terms, 7);
     }
     let x = terms.x;
@@ -279,9 +223,11 @@ fn open_request(
     requires { ⌜ (4608 ≤ length (now reply)) × (p < 64) ⌝ }
     ensures { λ r. ⌜ ((pool : Pool) → ComesTo (λ card. askedOf (now (ids .entry)) card p required preferred) p terms pool pool r (now (reply .entry)) (now (reply .exit))) ⌝ }
 {
-    let counter = terms.counter;
+    let mut head = terms.head;
+    let counter = head.counter;
     let taken = counter.take();
     let next = taken.next;
+    head.counter = next;
     let n = begun::put_reallocation(
         reply,
         taken.number,
@@ -292,7 +238,7 @@ fn open_request(
     Effect {
         number: 0,
         length: n,
-        counter: next,
+        head,
         change: Change::Asked(required, preferred, taken.number),
     }
 }

@@ -13,8 +13,7 @@ use Rattle.channels.specs.Channels.{channelAt, channelOf}
 use Rattle.sums.specs.Sums.{sumBy}
 use Rattle.pool.specs.declared.Pool.{Pool}
 use Rattle.pool.specs.Pool.{isActive, rowsOf}
-use Rattle.card.specs.declared.Card.{Card}
-use Rattle.card.specs.Cards.{hasPort}
+use Rattle.card.specs.Cards.{Card, hasPort}
 
 -- the flow of row k goes before that of row j
 abbrev pub rowBefore : List ℕ → ℕ → ℕ → Bool
@@ -59,4 +58,4 @@ activeRow pool p (At k) = isActive pool p k
 
 -- the flow is active on the port
 unfoldable pub activeAt : List ℕ → Card → ℕ → Flow → Bool
-activeAt channels card p f = cond (hasPort card p) (activeRow (card .pool) p (channelOf channels (card .«channel_count») f)) false
+activeAt channels card p f = cond (hasPort card p) (activeRow (card .pool) p (channelOf channels (card .head .«channel_count») f)) false

@@ -1,5 +1,5 @@
 // A port's active flows in order of family, group, source (none first).
-use card::Card;
+use card::Core;
 use flows::Flow;
 use pool::Rows;
 use rows::Found;
@@ -10,33 +10,34 @@ ghost use Prim.Native.Nat.{ℕ, _+_, _<_};
 ghost use lib.ListN.{take};
 ghost use Rattle.octets.specs.Writing.{over};
 ghost use Rattle.pool.specs.Pool.{listed, rowsIn, poolOf};
+ghost use Rattle.card.specs.Cards.{Areas, cardOf};
 ghost use Rattle.listing.specs.Listing.{rowBefore, placed, Listed, rowsInOrder, flowsAt, activeAt};
 
 // ---- what a host may read
 
 // The channels of the port's active flows, in order.
-pub fn flows_of(card: Card, channels: &[u32; 2816], p: usize) -> Rows
-    ensures { λ r. ⌜ r ≡ listed (flowsAt (now (channels .entry)) card p) ⌝ }
+pub fn flows_of(core: Core, channels: &[u32; 2816], p: usize) -> Rows
+    ensures { λ r. ⌜ ((areas : Areas) → r ≡ listed (flowsAt (now (channels .entry)) (cardOf core areas) p)) ⌝ }
 {
-    if !card::is_port(card.port_count, p) {
+    if !card::is_port(core.head.port_count, p) {
         return no_rows();
     }
-    let pool = card.pool;
+    let pool = core.pool;
     rows_in_order(channels, &pool.owner, &pool.channel, p as u8)
 }
 
 // The flow is active on the port.
-pub fn is_active(card: Card, channels: &[u32; 2816], p: usize, f: Flow) -> bool
-    ensures { λ r. ⌜ r ≡ activeAt (now (channels .entry)) card p f ⌝ }
+pub fn is_active(core: Core, channels: &[u32; 2816], p: usize, f: Flow) -> bool
+    ensures { λ r. ⌜ ((areas : Areas) → r ≡ activeAt (now (channels .entry)) (cardOf core areas) p f) ⌝ }
 {
-    if !card::is_port(card.port_count, p) {
+    if !card::is_port(core.head.port_count, p) {
         return false;
     }
-    let found = channels::channel_of(channels, card.channel_count, f);
+    let found = channels::channel_of(channels, core.head.channel_count, f);
     match found {
         Found::Nothing => false,
         Found::At(k) => {
-            let pool = card.pool;
+            let pool = core.pool;
             pool::is_active(&pool.owner, &pool.channel, p as u8, k)
         }
     }

@@ -1,7 +1,8 @@
 -- The cases of a message, each from the tests that lead to it.
 --     size-least, rest-short     how long a message that is handed in is, and what follows its header
 --     no-room, ..                13, and 15 for size and header
---     passed-at                  the port that a message is about
+--     named-size, ..             the port that a message is about, by size and header
+--     passed-at                  a message that passes the table is about the port at the terms' place
 --     verdict-offered            a transfer, by what the table gives
 --     answer-taken, ..           by type and Result
 --     verdict-requested, of-144, ..   a request, by what the table gives and by type
@@ -22,9 +23,8 @@ use Rattle.items.specs.Items.{itemsOf, firstOf}
 use Rattle.fields.specs.declared.Request.{Request}
 use Rattle.fields.specs.Fields.{requestIn}
 use Rattle.pool.specs.declared.Pool.{Pool}
-use Rattle.card.specs.declared.Card.{Card}
+use Rattle.card.specs.Cards.{Card, withPool}
 use Rattle.card.specs.declared.Terms.{Terms}
-use Rattle.card.specs.Cards.{withPool}
 use Rattle.card.specs.Outcome.{Outcome, keeps}
 use Rattle.card.specs.Parts.{HasTerms}
 use Rattle.checks.specs.declared.Verdict.{Verdict}
@@ -34,7 +34,7 @@ use Rattle.checks.proofs.Rows.{passed-tells, passed-named, located-by}
 use Rattle.control.specs.Control.{controlled}
 use Rattle.transfers.specs.Transfers.{reallocated}
 use Rattle.queries.specs.Queries.{delegationQuery, flowQuery}
-use Rattle.messages.specs.Messages.{isAnswer, isNotice, byType, requested, offered, byResult, byHead, receivedOf}
+use Rattle.messages.specs.Messages.{isAnswer, isNotice, byType, requested, offered, byResult, byHead, receivedOf, namedBy, namedIn}
 
 -- ---- size and header
 module _ (m : List ℕ) (size : sizeOk m ≡ true) where
@@ -70,8 +70,23 @@ module _ (ids channels : List ℕ) (card : Card) (m : List ℕ) (room : ℕ) whe
       unfolding receivedOf byHead
       usable-is e = rw (full, size, e)
 
+-- ---- the port that a message is about: it is looked for where size and header are right
+module _ (ids : List ℕ) (count : ℕ) (m : List ℕ) where
+  pub named-size : sizeOk m ≡ false → 64 ≡ namedIn ids count m
+  unfolding namedIn
+  named-size s = rw s
+
+  module _ (size : sizeOk m ≡ true) where
+    pub named-unusable : headIn m ≡ Unusable → 64 ≡ namedIn ids count m
+    unfolding namedIn namedBy
+    named-unusable e = rw (size, e)
+
+    pub named-usable : {h : Header} → headIn m ≡ Usable h → portNamed ids count (drop 16 m) ≡ namedIn ids count m
+    unfolding namedIn namedBy
+    named-usable e = rw (size, e)
+
 -- ---- the table, on a card with these terms; p is the port that the Target names
-module _ (ids s : List ℕ) {card : Card} {p : ℕ} {terms : Terms} (pool : Pool) (g : HasTerms card p terms) (e : p ≡ portNamed ids (terms .«port_count») s) where
+module _ (ids s : List ℕ) {card : Card} {p : ℕ} {terms : Terms} (pool : Pool) (g : HasTerms card p terms) (e : p ≡ portNamed ids (terms .head .«port_count») s) where
   -- a message that passes is about the port at the terms' place
   pub passed-at : (h : Header) {q : ℕ} → tableOf ids (withPool card pool) h s ≡ Passed q → q ≡ terms .at
   passed-at h {q} t =

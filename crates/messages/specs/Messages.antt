@@ -10,7 +10,7 @@ use Rattle.header.specs.declared.Head.the-variants.{Unusable, Usable}
 use Rattle.header.specs.Header.{sizeOk, headIn}
 use Rattle.items.specs.Items.{itemsOf, firstOf}
 use Rattle.fields.specs.Fields.{allocationIn, requestIn}
-use Rattle.card.specs.declared.Card.{Card}
+use Rattle.card.specs.Cards.{Card}
 use Rattle.card.specs.Outcome.{Outcome, keeps, writes}
 use Rattle.checks.specs.declared.Verdict.{Verdict}
 use Rattle.checks.specs.declared.Verdict.the-variants.{Refused, Passed}
@@ -68,6 +68,10 @@ receivedOf ids channels card m room =
     cond (ltb room 4608) (keeps card 13)
     (cond (sizeOk m) (byHead ids channels card m (headIn m)) (keeps card 15))
 
--- the port that the message's Target names, or 64 where it is no port's: the one port whose record and flows the message can change
+-- the port that the Target of a usable message names, or 64 where it is no port's: the one port whose record and flows the message can change
+unfoldable pub namedBy : List ℕ → ℕ → List ℕ → Head → ℕ
+namedBy ids count m Unusable = 64
+namedBy ids count m (Usable h) = portNamed ids count (drop 16 m)
+
 unfoldable pub namedIn : List ℕ → ℕ → List ℕ → ℕ
-namedIn ids count m = portNamed ids count (drop 16 m)
+namedIn ids count m = cond (sizeOk m) (namedBy ids count m (headIn m)) 64

@@ -1,6 +1,4 @@
 // A message from the access server, check by check, and its answer.
-use card::Card;
-use card::Done;
 use card::Effect;
 use card::Terms;
 use card::unchanged;
@@ -16,60 +14,25 @@ ghost use mathlib.Core.List.{List};
 ghost use Prim.Native.Nat.{ℕ, _≤_, _<_};
 ghost use lib.ListN.{length};
 ghost use Rattle.pool.specs.Pool.{poolOf, Whole};
-ghost use Rattle.card.specs.Outcome.{Ends};
 ghost use Rattle.card.specs.Parts.{ComesTo};
 ghost use Rattle.checks.specs.Table.{portNamed, tableOf};
 ghost use Rattle.messages.specs.Messages.{isAnswer, isNotice, byType, requested, refusedNumber, offered, byResult, receivedOf, namedIn};
 
-pub fn message(
-    card: Card,
-    ids: &[u8; 4096],
-    channels: &[u32; 2816],
-    octets: &[u8],
-    reply: &mut [u8],
-) -> Done
-    ensures { λ r. ⌜ Ends (receivedOf (now (ids .entry)) (now (channels .entry)) card (now (octets .entry)) (length (now (reply .entry)))) r (now (reply .entry)) (now (reply .exit)) ⌝ }
-{
-    let p = port_named(ids, card.port_count, octets);
-    let at = card::slot(p);
-    let terms = card::terms_at(card, at);
-    let mut owner = card.pool.owner;
-    let mut channel = card.pool.channel;
-    let mut charged = card.pool.charged;
-    let mut accounting = card.pool.accounting;
-    let r = message_in(
-        &mut owner,
-        &mut channel,
-        &mut charged,
-        &mut accounting,
-        ids,
-        channels,
-        terms,
-        p,
-        octets,
-        reply,
-    );
-    let pool = Pool {
-        owner,
-        channel,
-        charged,
-        accounting,
-    };
-    card::done_with(card, at, pool, r)
-}
-
-// The port that the message's Target names, or 64 where it is no port's.
+// The port that a usable message's Target names, or 64: of an unusable one nothing behind the header is looked at.
 pub fn port_named(ids: &[u8; 4096], port_count: usize, octets: &[u8]) -> usize
     ensures { λ r. ⌜ r ≡ namedIn (now (ids .entry)) «port_count» (now (octets .entry)) ⌝ }
 {
-    let n = octets.len();
-    if n < 16 {
-        return checks::port_named(ids, port_count, &octets[n..]);
+    if !header::size_ok(octets) {
+        return 64;
     }
-    checks::port_named(ids, port_count, &octets[16..])
+    let head = header::read_header(octets);
+    match head {
+        Head::Unusable => 64,
+        Head::Usable(_) => checks::port_named(ids, port_count, &octets[16..]),
+    }
 }
 
-// The same on the parts of a card that it reads and writes, where p is what `port_named` gives.
+// On the parts of a card that it reads and writes, where p is what `port_named` gives.
 pub fn message_in(
     owner: &mut [u8; 512],
     channel: &mut [u8; 512],
@@ -82,7 +45,7 @@ pub fn message_in(
     octets: &[u8],
     reply: &mut [u8],
 ) -> Effect
-    requires { ⌜ Whole (poolOf (now owner) (now channel) (now charged) (now accounting)) × (terms .at < 64) × (p ≡ namedIn (now ids) (terms .«port_count») (now octets)) ⌝ }
+    requires { ⌜ Whole (poolOf (now owner) (now channel) (now charged) (now accounting)) × (terms .at < 64) × (p ≡ namedIn (now ids) (terms .head .«port_count») (now octets)) ⌝ }
     ensures { λ r. ⌜ ComesTo (λ card. receivedOf (now (ids .entry)) (now (channels .entry)) card (now (octets .entry)) (length (now (reply .entry)))) p terms (poolOf (now (owner .entry)) (now (channel .entry)) (now (charged .entry)) (now (accounting .entry))) (poolOf (now (owner .exit)) (now (channel .exit)) (now (charged .exit)) (now (accounting .exit))) r (now (reply .entry)) (now (reply .exit)) ⌝ }
 {
     if reply.len() < 4608 {
@@ -125,7 +88,7 @@ fn by_result(
 ) -> Effect
     requires whole { ⌜ Whole (poolOf (now owner) (now channel) (now charged) (now accounting)) ⌝ }
     requires room { ⌜ (4608 ≤ length (now reply)) × (length (now tlvs) ≤ 4096) ⌝ }
-    requires named { ⌜ (terms .at < 64) × (p ≡ portNamed (now ids) (terms .«port_count») (now tlvs)) ⌝ }
+    requires named { ⌜ (terms .at < 64) × (p ≡ portNamed (now ids) (terms .head .«port_count») (now tlvs)) ⌝ }
     ensures { λ r. ⌜ ComesTo (λ card. byResult (now (ids .entry)) (now (channels .entry)) card h (now (tlvs .entry))) p terms (poolOf (now (owner .entry)) (now (channel .entry)) (now (charged .entry)) (now (accounting .entry))) (poolOf (now (owner .exit)) (now (channel .exit)) (now (charged .exit)) (now (accounting .exit))) r (now (reply .entry)) (now (reply .exit)) ⌝ }
 {
     let answer = is_answer(h.result);
@@ -170,7 +133,7 @@ fn is_notice(h: Header) -> bool
 
 // An answer to a request of the card's own. Whatever the maps and the buffer hold.
 fn offered(terms: Terms, p: usize, h: Header, tlvs: &[u8]) -> Effect
-    ensures { λ r. ⌜ ((ids : List ℕ) (pool : Pool) (text : List ℕ) → p ≡ portNamed ids (terms .«port_count») (now (tlvs .entry)) → ComesTo (λ card. offered card h (now (tlvs .entry)) (tableOf ids card h (now (tlvs .entry)))) p terms pool pool r text text) ⌝ }
+    ensures { λ r. ⌜ ((ids : List ℕ) (pool : Pool) (text : List ℕ) → p ≡ portNamed ids (terms .head .«port_count») (now (tlvs .entry)) → ComesTo (λ card. offered card h (now (tlvs .entry)) (tableOf ids card h (now (tlvs .entry)))) p terms pool pool r text text) ⌝ }
 {
     let x = terms.x;
     let verdict = checks::check_table(p, x.up, h, tlvs);
@@ -211,7 +174,7 @@ fn requested(
 ) -> Effect
     requires whole { ⌜ Whole (poolOf (now owner) (now channel) (now charged) (now accounting)) ⌝ }
     requires room { ⌜ (4608 ≤ length (now reply)) × (length (now tlvs) ≤ 4096) ⌝ }
-    requires named { ⌜ (terms .at < 64) × (p ≡ portNamed (now ids) (terms .«port_count») (now tlvs)) ⌝ }
+    requires named { ⌜ (terms .at < 64) × (p ≡ portNamed (now ids) (terms .head .«port_count») (now tlvs)) ⌝ }
     ensures { λ r. ⌜ ComesTo (λ card. requested (now (ids .entry)) (now (channels .entry)) card h (now (tlvs .entry)) (tableOf (now (ids .entry)) card h (now (tlvs .entry)))) p terms (poolOf (now (owner .entry)) (now (channel .entry)) (now (charged .entry)) (now (accounting .entry))) (poolOf (now (owner .exit)) (now (channel .exit)) (now (charged .exit)) (now (accounting .exit))) r (now (reply .entry)) (now (reply .exit)) ⌝ }
 {
     let x = terms.x;

@@ -1,5 +1,4 @@
 // The octet program of 01: one port `p1`, up, with delegation 4000, is handed the message on standard input; prints the answer.
-use card::Card;
 
 // Which channels and lists the card has is the program's choice: none.
 struct Tables {
@@ -20,27 +19,24 @@ fn filled() -> Tables {
     }
 }
 
-fn started(t: Tables) -> Card {
-    let ids = t.ids;
-    let channels = t.channels;
-    let entries = t.entries;
-    let s = card::start(&ids, 1, &channels, 0, &entries, 0, false, false, 1);
-    let c = s.card;
-    let up = card::port_up(c, 0);
-    let d = up.card;
-    let set = card::set_delegation(d, &channels, 0, 4000);
-    set.card
-}
-
 fn main() {
     // One octet more than a message may have, so that a longer one is seen to be too long.
     let mut octets = [0u8; 4097];
     let mut reply = [0u8; 4608];
-    let n = io::read_full(0, &mut octets);
     let t = filled();
     let ids = t.ids;
     let channels = t.channels;
-    let done = messages::message(started(t), &ids, &channels, &octets[..n], &mut reply);
+    let entries = t.entries;
+    let s = card::start(&ids, 1, &channels, 0, &entries, 0, false, false, 1);
+    let up = calls::on_port(calls::PORT_UP, 0, 0, 0);
+    let set = calls::on_port(calls::SET_DELEGATION, 0, 4000, 0);
+    let told = calls::on_port(calls::MESSAGE, 0, 0, 0);
+    // no octets belong to the host's calls
+    let none = [0u8; 1];
+    let a = calls::call(s.core, &ids, &channels, &entries, up, &none, &mut reply);
+    let b = calls::call(a.core, &ids, &channels, &entries, set, &none, &mut reply);
+    let n = io::read_full(0, &mut octets);
+    let done = calls::call(b.core, &ids, &channels, &entries, told, &octets[..n], &mut reply);
     let length = done.length;
     io::write_all(1, b"answer=");
     io::print_decimal(1, done.number as u64);

@@ -9,8 +9,7 @@ use Rattle.replies.specs.Replies.{replyHeader, amountReply}
 use Rattle.flow_octets.specs.FlowOctets.{flowTlv}
 use Rattle.channels.specs.Channels.{channelAt}
 use Rattle.circuits.specs.Circuits.{idAt}
-use Rattle.card.specs.declared.Card.{Card}
-use Rattle.card.specs.Cards.{portAt}
+use Rattle.card.specs.Cards.{Card, portAt}
 use Rattle.card.specs.Outcome.{Outcome, writes}
 use Rattle.listing.specs.Listing.{rowsInOrder}
 

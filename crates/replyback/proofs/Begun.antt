@@ -18,8 +18,7 @@ use Rattle.circuits.specs.Circuits.{idAt}
 use Rattle.circuits.proofs.Circuits.{id-short}
 use Rattle.ports.specs.Ports.{mayAsk}
 use Rattle.pool.specs.Pool.{isActive}
-use Rattle.card.specs.declared.Card.{Card}
-use Rattle.card.specs.Cards.{hasPort, portAt}
+use Rattle.card.specs.Cards.{Card, hasPort, portAt}
 use Rattle.card.specs.Outcome.{Outcome}
 use Rattle.joins.specs.Joins.{admitNumber, whiteOf, greyOf, byList, joinRow, joinOf}
 use Rattle.joins.specs.Asks.{askedOf, askOf}
@@ -30,7 +29,7 @@ use Rattle.replyback.proofs.Answers.{kinds-back}
 use Rattle.replyback.proofs.Lengths.{sizes}
 use Rattle.replyback.proofs.Messages.{message-answers}
 
-module _ (ids : List ℕ) (card : Card) (p : ℕ) (ht : card .counter .number < 16777216) where
+module _ (ids : List ℕ) (card : Card) (p : ℕ) (ht : card .head .counter .number < 16777216) where
   -- ---- join
   module _ (f : Flow) (lg : length (f .group) ≡ 4) (ls : length (f .source) ≡ 4) (channels entries : List ℕ) where
     abbrev ByJoin : Outcome → Type 0
@@ -39,15 +38,15 @@ module _ (ids : List ℕ) (card : Card) (p : ℕ) (ht : card .counter .number < 
     white-begins : (k : ℕ) → ByJoin (whiteOf channels card p k)
     unfolding whiteOf
     white-begins k =
-        by-cond ByJoin (eqb (admitNumber channels card (card .«white_cac») p k) 0) _ _ (λ _. silent refl) (λ _. silent refl)
+        by-cond ByJoin (eqb (admitNumber channels card (card .head .«white_cac») p k) 0) _ _ (λ _. silent refl) (λ _. silent refl)
 
     list-begins : goodFlow f ≡ true → (k : ℕ) (d : Decision) → ByJoin (byList ids channels card p f k d)
     unfolding byList greyOf
     list-begins good k White = white-begins k
     list-begins good k Grey =
         written (
-          kinds-back .admission (card .counter .number) (idAt ids p) f ht lg ls good,
-          omega (arith, sizes .short (idAt ids p) (id-short ids p) .admission (card .counter .number) f),
+          kinds-back .admission (card .head .counter .number) (idAt ids p) f ht lg ls good,
+          omega (arith, sizes .short (idAt ids p) (id-short ids p) .admission (card .head .counter .number) f),
         )
     list-begins good k Black = silent refl
     list-begins good k None = silent refl
@@ -56,7 +55,7 @@ module _ (ids : List ℕ) (card : Card) (p : ℕ) (ht : card .counter .number < 
     unfolding joinRow
     row-begins good Nothing = silent refl
     row-begins good (At k) =
-        by-cond ByJoin (isActive (card .pool) p k) _ _ (λ _. silent refl) (λ _. list-begins good k (listDecision entries (card .«entry_count») f))
+        by-cond ByJoin (isActive (card .pool) p k) _ _ (λ _. silent refl) (λ _. list-begins good k (listDecision entries (card .head .«entry_count») f))
 
     join-begins : (room : ℕ) → ByJoin (joinOf ids channels entries card p f room)
     unfolding joinOf
@@ -64,7 +63,7 @@ module _ (ids : List ℕ) (card : Card) (p : ℕ) (ht : card .counter .number < 
         by-cond ByJoin (ltb room 4608) _ _ (λ _. silent refl)
         (λ _. by-cond ByJoin (hasPort card p) _ _
         (λ _. by-cond ByJoin (portAt card p .up) _ _
-        (λ _. by-cond ByJoin (goodFlow f) _ _ (λ good. row-begins good (channelOf channels (card .«channel_count») f)) (λ _. silent refl))
+        (λ _. by-cond ByJoin (goodFlow f) _ _ (λ good. row-begins good (channelOf channels (card .head .«channel_count») f)) (λ _. silent refl))
         (λ _. silent refl))
         (λ _. silent refl))
 
@@ -77,8 +76,8 @@ module _ (ids : List ℕ) (card : Card) (p : ℕ) (ht : card .counter .number < 
     unfolding askedOf
     asked-begins =
         written (
-          kinds-back .reallocation (card .counter .number) (idAt ids p) required preferred ht,
-          omega (arith, sizes .short (idAt ids p) (id-short ids p) .reallocation (card .counter .number) required preferred),
+          kinds-back .reallocation (card .head .counter .number) (idAt ids p) required preferred ht,
+          omega (arith, sizes .short (idAt ids p) (id-short ids p) .reallocation (card .head .counter .number) required preferred),
         )
 
     ask-begins : (room : ℕ) → ByAsk (askOf ids card p required preferred room)

@@ -23,8 +23,7 @@ use Rattle.circuits.specs.Circuits.{idAt, portOf}
 use Rattle.circuits.proofs.Circuits.{id-short, port-found}
 use Rattle.ports.specs.Ports.{answers, within}
 use Rattle.pool.specs.Pool.{committedOf}
-use Rattle.card.specs.declared.Card.{Card}
-use Rattle.card.specs.Cards.{portAt}
+use Rattle.card.specs.Cards.{Card, portAt}
 use Rattle.card.specs.Outcome.{Outcome, writes}
 use Rattle.checks.specs.declared.Verdict.{Verdict}
 use Rattle.checks.specs.declared.Verdict.the-variants.{Refused, Passed}
@@ -174,12 +173,12 @@ module _ (m : List ℕ) (octets : Octets m) (lo : 16 ≤ length m) (hi : length 
         row 0x55 (kinds-back .rows h s transaction-fits .fault i is ok e .says) (omega (arith, sizes .rows h s .fault))
 
     port-answers : listOk 3 false s ≡ true → circuitIds (firstOf 0x1000 (itemsOf s)) ≡ 1
-        → (x : Found) → portOf ids (card .«port_count») (idIn s) ≡ x → Row (located card x)
+        → (x : Found) → portOf ids (card .head .«port_count») (idIn s) ≡ x → Row (located card x)
     unfolding located Row requested
     port-answers ok one Nothing e =
         row 0x500 (kinds-back .rows h s transaction-fits .unknown .refuses .says) (sizes .rows h s .unknown)
     port-answers ok one (At p) e =
-        by-cond Row (portAt card p .up) _ _ (λ _. type-answers ids channels p ok one (port-found ids (card .«port_count») (idIn s) e .is) card)
+        by-cond Row (portAt card p .up) _ _ (λ _. type-answers ids channels p ok one (port-found ids (card .head .«port_count») (idIn s) e .is) card)
         (λ _. row 0x6 (kinds-back .rows h s transaction-fits .down .refuses .says) (sizes .rows h s .down))
 
     named-answers : listOk 3 false s ≡ true → Row (namedRows ids card (h .kind) s)
@@ -189,7 +188,7 @@ module _ (m : List ℕ) (octets : Octets m) (lo : 16 ≤ length m) (hi : length 
         (λ a. by-cond Row (eqb (length (faults (h .kind) s)) 0) _ _
         (λ b. port-answers ok
         (one-circuit (singleOf (h .kind)) false (itemsOf s) (target-stands (h .kind) (itemsOf s) (eqb-true _ _ a)) (eqb-true _ _ b))
-        (portOf ids (card .«port_count») (idIn s)) refl)
+        (portOf ids (card .head .«port_count») (idIn s)) refl)
         (λ b. fault-answers ok (faults (h .kind) s) refl b))
         (λ a. row 0x54 (kinds-back .rows h s transaction-fits .missing .says) (omega (arith, sizes .rows h s .missing)))
 

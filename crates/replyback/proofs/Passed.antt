@@ -21,14 +21,13 @@ use Rattle.writers.proofs.Tlvs.{length-tlv}
 use Rattle.pool.specs.declared.Pool.{Pool}
 use Rattle.flows.specs.declared.Flow.{Flow}
 use Rattle.pool.specs.Pool.{isActive, hasFlow, rowsOf}
-use Rattle.card.specs.declared.Card.{Card}
+use Rattle.card.specs.Cards.{Card}
 use Rattle.joins.specs.Joins.{admitNumber}
 use Rattle.listing.specs.Listing.{rowBefore, placed, placedAll, inOrder, rowsInOrder}
 use Rattle.checks.specs.Named.{beside, needed, missing, fromFault}
-use Rattle.commands.specs.declared.Ran.{Ran}
+use Rattle.commands.specs.Commands.{Ran, addNew, addRow, deleteFlow, obeyed, ranOf}
 use Rattle.commands.specs.Orders.{Order, shapeOk, flowContent, flowOrder, orderOf}
 use Rattle.commands.specs.Orders.Order.{ill}
-use Rattle.commands.specs.Commands.{addNew, addRow, deleteFlow, obeyed, ranOf}
 use Rattle.replyback.proofs.Cases.{by-cond}
 
 -- ---- no type is missing: a Target stands
@@ -77,7 +76,7 @@ module _ (channels : List ℕ) (card : Card) (p : ℕ) where
   add-code accounting Nothing = omega arith
   add-code accounting (At k) =
       by-cond Small (isActive (card .pool) p k) _ _ (λ _. omega arith)
-      (λ _. by-cond Small (eqb (admitNumber channels card (card .«add_cac») p k) 0) _ _ (λ _. omega arith) (λ _. omega arith))
+      (λ _. by-cond Small (eqb (admitNumber channels card (card .head .«add_cac») p k) 0) _ _ (λ _. omega arith) (λ _. omega arith))
 
   delete-code : (f : Flow) → deleteFlow channels card p f .code < 4096
   unfolding deleteFlow
@@ -96,7 +95,7 @@ module _ (channels : List ℕ) (card : Card) (p : ℕ) where
       by-cond Fits (flowFormed c) _ _
       (λ _. by-cond Fits (goodFlow (flowNamed c)) _ _
       (λ _. by-cond Fits (eqb code 1) _ _
-      (λ _. add-code accounting (channelOf channels (card .«channel_count») (flowNamed c)))
+      (λ _. add-code accounting (channelOf channels (card .head .«channel_count») (flowNamed c)))
       (λ _. delete-code (flowNamed c)))
       (λ _. ill-code 0x65 (omega arith)))
       (λ _. ill-code 0x55 (omega arith))

@@ -10,7 +10,7 @@ use Rattle.header.specs.Header.{usable, headerIn}
 use Rattle.tlv.specs.Depth.{depthOf, listOk}
 use Rattle.flows.specs.declared.Flow.{Flow}
 use Rattle.circuits.specs.Circuits.{idAt}
-use Rattle.card.specs.declared.Card.{Card}
+use Rattle.card.specs.Cards.{Card}
 use Rattle.card.specs.Outcome.{Outcome}
 use Rattle.joins.specs.Joins.{joinOf}
 use Rattle.joins.specs.Asks.{askOf}
@@ -39,17 +39,17 @@ Octets m = (i : ℕ) → getD m i 0 < 256
 
 -- w as what a join, and an ask, begins on port p
 abbrev pub Joins : List ℕ → Card → ℕ → Flow → List ℕ → Type 0
-Joins ids card p f w = Admits w (card .counter .number) (idAt ids p) f × (length w ≤ 136)
+Joins ids card p f w = Admits w (card .head .counter .number) (idAt ids p) f × (length w ≤ 136)
 
 abbrev pub Asks : List ℕ → Card → ℕ → ℕ → ℕ → List ℕ → Type 0
-Asks ids card p required preferred w = Requests w (card .counter .number) (idAt ids p) required preferred × (length w ≤ 100)
+Asks ids card p required preferred w = Requests w (card .head .counter .number) (idAt ids p) required preferred × (length w ≤ 100)
 
 -- the number of a message that is begun fits its field, and an address has four words
 pub record EveryReply : Type 0 where
   pub message : (ids channels : List ℕ) (card : Card) (m : List ℕ) (room : ℕ) → Octets m
       → MayWrite (Answer m) (receivedOf ids channels card m room)
-  pub join : (ids channels entries : List ℕ) (card : Card) (p : ℕ) (f : Flow) (room : ℕ) → card .counter .number < 16777216
+  pub join : (ids channels entries : List ℕ) (card : Card) (p : ℕ) (f : Flow) (room : ℕ) → card .head .counter .number < 16777216
       → length (f .group) ≡ 4 → length (f .source) ≡ 4
       → MayWrite (Joins ids card p f) (joinOf ids channels entries card p f room)
-  pub ask : (ids : List ℕ) (card : Card) (p required preferred room : ℕ) → card .counter .number < 16777216
+  pub ask : (ids : List ℕ) (card : Card) (p required preferred room : ℕ) → card .head .counter .number < 16777216
       → MayWrite (Asks ids card p required preferred) (askOf ids card p required preferred room)

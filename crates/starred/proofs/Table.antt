@@ -33,10 +33,10 @@ use Rattle.checks.specs.Named.{beside, missing, singleOf, fromFault}
 use Rattle.checks.specs.Table.{handled, resultOk, idIn, located, namedRows, tableOf}
 use Rattle.transfers.specs.Transfers.{reducedTo, transferFails, transferGives, reallocated}
 use Rattle.messages.specs.Messages.{isAnswer, isNotice, byType, requested, byResult, byHead, receivedOf}
-use Rattle.demand3.specs.Calls.{outcomeOf, startedOf}
+use Rattle.demand3.specs.Calls.{outcomeOf, startedOf, byCall}
 use Rattle.demand3.specs.Reads.{tlvsIn, amountIn}
 use Rattle.starred.specs.Givens.{idRow, groupAt, channelsFrom, rates, tables, upWith, ownersFrom, channelsIn, poolOf, cardWith, many, committed3000, committed3500, crowded, flow, joins, asks, requests}
-use Rattle.starred.specs.Starred.{ofJoin, shownBy, shown, rows, Starred}
+use Rattle.starred.specs.Starred.{shownBy, shown, rows, Starred}
 
 pub table : Starred
 unfolding flatMap every mapTo sumTo
@@ -52,5 +52,5 @@ unfolding flatMap every mapTo sumTo
     receivedOf byHead byResult isAnswer isNotice requested byType tableOf handled resultOk namedRows beside missing singleOf fromFault idIn located
     reallocated reducedTo transferFails transferGives
     idRow groupAt channelsFrom rates tables upWith ownersFrom channelsIn poolOf cardWith many committed3000 committed3500 crowded
-    flow joins asks requests ofJoin shownBy shown rows Starred
+    flow joins asks requests byCall shownBy shown rows Starred
 table = refl

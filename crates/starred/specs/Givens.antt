@@ -12,8 +12,7 @@ use Rattle.replies.specs.Replies.{beginHeader}
 use Rattle.ports.specs.declared.Port.{Port}
 use Rattle.pool.specs.declared.Pool.{Pool}
 use Rattle.pool.specs.Pool.{free}
-use Rattle.card.specs.declared.Card.{Card}
-use Rattle.card.specs.Cards.{withPool}
+use Rattle.card.specs.Cards.{Card, withPool}
 use Rattle.demand3.specs.Calls.{Tables, Call, startedOf}
 use Rattle.demand3.specs.Calls.Call.{join, ask, message}
 
@@ -53,17 +52,7 @@ tables =
 -- ---- cards
 
 abbrev pub withPorts : Card → List Port → Card
-withPorts card ports =
-    record {
-      ports = ports;
-      pool = card .pool;
-      counter = card .counter;
-      «port_count» = card .«port_count»;
-      «channel_count» = card .«channel_count»;
-      «entry_count» = card .«entry_count»;
-      «white_cac» = card .«white_cac»;
-      «add_cac» = card .«add_cac»;
-    }
+withPorts card ports = record { ports = ports; pool = card .pool; head = card .head; areas = card .areas }
 
 -- a port that is up with its delegation, and has no open request
 unfoldable pub upWith : ℕ → Port

@@ -4,13 +4,11 @@ use Prim.Native.Nat.{ℕ}
 use mathlib.Core.Path.{_≡_}
 use mathlib.Core.Bool.{Bool, true, false}
 use mathlib.Core.List.{List, [], _∷_, map}
-use Rattle.flows.specs.declared.Flow.{Flow}
 use Rattle.header.specs.Header.{headerIn}
 use Rattle.pool.specs.Pool.{countOf, extrasOf}
-use Rattle.card.specs.declared.Card.{Card}
+use Rattle.card.specs.Cards.{Card}
 use Rattle.card.specs.Outcome.{Outcome}
-use Rattle.demand3.specs.Calls.{Tables, Call, ours}
-use Rattle.demand3.specs.Calls.Call.{portUp, portDown, setDelegation, join, leave, ask, message}
+use Rattle.demand3.specs.Calls.{Tables, Call, ours, ofJoin}
 use Rattle.demand3.specs.Reads.{amountIn}
 use Rattle.starred.specs.Givens.{tables, committed3000, committed3500, crowded, joins, asks, requests}
 
@@ -35,21 +33,11 @@ pub record Shown : Type 0 where
   pub active : Bool
   pub next : ℕ
 
--- what is read of a join, whose flow is f, and `none` of any other call
-unfoldable pub ofJoin : {A : Type 0} → A → (Flow → A) → Call → A
-ofJoin none read (join p f room) = read f
-ofJoin none read (portUp p) = none
-ofJoin none read (portDown p) = none
-ofJoin none read (setDelegation p amount) = none
-ofJoin none read (leave p f) = none
-ofJoin none read (ask p required preferred room) = none
-ofJoin none read (message m room) = none
-
 unfoldable pub shownBy : Tables → Given → Outcome → Shown
 shownBy t x o =
     record {
-      flows = ofJoin 0 (λ f. countOf (x .card .pool) 0) (x .call);
-      extras = ofJoin 0 (λ f. extrasOf (x .card .pool)) (x .call);
+      flows = ofJoin (λ p f room. countOf (x .card .pool) 0) 0 (x .call);
+      extras = ofJoin (λ p f room. extrasOf (x .card .pool)) 0 (x .call);
       committed = ours .committed t (x .card) 0;
       number = o .number;
       result = headerIn (o .reply) .result;
@@ -57,8 +45,8 @@ shownBy t x o =
       amount = amountIn (o .reply);
       transaction = headerIn (o .reply) .transaction;
       delegation = ours .delegation (o .card) 0;
-      active = ofJoin false (λ f. ours .active t (o .card) 0 f) (x .call);
-      next = o .card .counter .number;
+      active = ofJoin (λ p f room. ours .active t (o .card) 0 f) false (x .call);
+      next = o .card .head .counter .number;
     }
 
 -- what our build shows

@@ -11,8 +11,7 @@ use Rattle.ports.specs.declared.Port.{Port}
 use Rattle.ports.specs.declared.Change.the-variants.{Delegated, Closed}
 use Rattle.ports.specs.Ports.{changedBy, answers, within}
 use Rattle.pool.specs.Pool.{committedOf}
-use Rattle.card.specs.declared.Card.{Card}
-use Rattle.card.specs.Cards.{portAt}
+use Rattle.card.specs.Cards.{Card, portAt}
 use Rattle.card.specs.Outcome.{Outcome, keeps, becomes}
 use Rattle.card.specs.Parts.{changedAt}
 use Rattle.transfers.specs.Transfers.{reducedTo, transferFails, transferGives, reallocated, transferred}

@@ -9,8 +9,7 @@ use Rattle.replies.specs.Replies.{amountReply}
 use Rattle.circuits.specs.Circuits.{idAt}
 use Rattle.ports.specs.Ports.{closed, delegated, answers, within}
 use Rattle.pool.specs.Pool.{committedOf}
-use Rattle.card.specs.declared.Card.{Card}
-use Rattle.card.specs.Cards.{portAt, withPort}
+use Rattle.card.specs.Cards.{Card, portAt, withPort}
 use Rattle.card.specs.Outcome.{Outcome, keeps, becomes, writes}
 
 -- ---- 146: always answered by 147 with Target and Bandwidth-Allocation

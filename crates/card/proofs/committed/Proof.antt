@@ -12,14 +12,14 @@ inside c = c .before .is-port .ensures .1 (not-false _ (c .if1 .left))
 
 returns : tie.Need-returns
 unfolding committedAt
-returns c = rw (sym (c .before .is-port .ensures .0) ∙ not-true _ (c .if1 .taken))
+returns c areas = rw (sym (c .before .is-port .ensures .0) ∙ not-true _ (c .if1 .taken))
 
 cast-committed-of : tie.Need-cast-committed-of
 cast-committed-of c = omega (arith, inside (c .before .before .before .before .before))
 
 returns-2 : tie.Need-returns-2
 unfolding committedAt
-returns-2 c = rw (sym (c .before .before .before .before .before .before .before .is-port .ensures .0) ∙ not-false _ (c .before .before .before .before .before .before .if1 .left)) (c .committed-of .ensures)
+returns-2 c areas = rw (sym (c .before .before .before .before .before .before .before .is-port .ensures .0) ∙ not-false _ (c .before .before .before .before .before .before .if1 .left)) (c .committed-of .ensures)
 
 pub committed-spec : {M : Type 1} → statement M
 committed-spec =

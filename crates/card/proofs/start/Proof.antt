@@ -1,31 +1,23 @@
-use mathlib.Core.Path.{_≡_, sym, ap, _∙_}
+use mathlib.Core.Path.{_≡_, refl, sym, ap, _∙_}
 use mathlib.Core.Bool.{true, false}
 use borrow.Author.Tests.{not-true, not-false}
 use Rattle.octets.specs.Tests.{every}
-use Rattle.card.specs.declared.Card.{Card}
-use Rattle.card.specs.declared.Started.{Started}
-use Rattle.card.specs.Start.{startOf}
+use Rattle.card.specs.Start.{startOf, freshAreas}
 use borrow.Author.Needs.{needs}
 use Rattle.card.proofs.start.Statement.{statement}
 use Rattle.card.proofs.start.Tie as tie
 
-abbrev refused : Card → Started
-refused x = record { card = x; number = 14 }
-
-abbrev accepted : Card → Started
-accepted x = record { card = x; number = 0 }
-
 returns : tie.Need-returns
 unfolding startOf every
-returns c = rw (sym (c .before .before .tables-ok .ensures) ∙ not-true _ (c .before .if1 .taken)) (ap refused (c .fresh-card .ensures))
+returns c = rw (sym (c .before .before .tables-ok .ensures) ∙ not-true _ (c .before .if1 .taken)) (record { number = refl; core = c .fresh-core .ensures; areas = refl })
 
 returns-2 : tie.Need-returns-2
 unfolding startOf every
-returns-2 c = rw (sym (c .before .before .before .before .tables-ok .ensures) ∙ not-false _ (c .before .before .before .if1 .left), sym (c .before .before .first-ok .ensures) ∙ not-true _ (c .before .if2 .taken)) (ap refused (c .fresh-card2 .ensures))
+returns-2 c = rw (sym (c .before .before .before .before .tables-ok .ensures) ∙ not-false _ (c .before .before .before .if1 .left), sym (c .before .before .first-ok .ensures) ∙ not-true _ (c .before .if2 .taken)) (record { number = refl; core = c .fresh-core2 .ensures; areas = refl })
 
 returns-3 : tie.Need-returns-3
-unfolding startOf every
-returns-3 c = rw (sym (c .before .before .before .before .tables-ok .ensures) ∙ not-false _ (c .before .before .before .if1 .left), sym (c .before .before .first-ok .ensures) ∙ not-false _ (c .before .if2 .left)) (ap accepted (c .fresh-card3 .ensures))
+unfolding startOf every freshAreas
+returns-3 c = rw (sym (c .before .before .before .before .tables-ok .ensures) ∙ not-false _ (c .before .before .before .if1 .left), sym (c .before .before .first-ok .ensures) ∙ not-false _ (c .before .if2 .left)) (record { number = refl; core = c .fresh-core3 .ensures; areas = refl })
 
 pub start-spec : {M : Type 1} → statement M
 start-spec =

@@ -8,8 +8,7 @@ use Rattle.pool.specs.declared.Pool.{Pool}
 use Rattle.pool.specs.Pool.{activeIn, poolOf, withAccounting, began}
 use Rattle.pool.proofs.Whole.{whole-accounted, whole-began}
 use Rattle.pool.proofs.Lent.{accounted-in, swept-none}
-use Rattle.card.specs.declared.Card.{Card}
-use Rattle.card.specs.Cards.{withPool}
+use Rattle.card.specs.Cards.{Card, withPool}
 use Rattle.card.specs.Parts.{HasTerms}
 use Rattle.card.proofs.Parts.{add-is}
 use Rattle.joins.specs.Joins.{admitNumber}
@@ -34,7 +33,7 @@ kept c =
     c .before .account-in .ensures .1 ∙ swept-none (a .accounting .now) (a .value) (a .owner .now) (a .channel .now) (a .terms .at) (λ j. eqb j (a .k)) (c .before .before .before .before .before .before .before .pre .1 .accounting) (idle c)
 
 admitted : (c : tie.After-admit-number) (card : Card) → HasTerms card (c .before .before .before .before .before .before .before .before .before .before .before .args .terms .at) (c .before .before .before .before .before .before .before .before .before .before .before .args .terms)
-    → c .admit-number .result ≡ admitNumber (c .before .before .before .before .before .before .before .before .before .before .before .args .channels .now) (withPool card (maps (c .before .before .before .before .before .before .before .before .before .before .before))) (card .«add_cac») (c .before .before .before .before .before .before .before .before .before .before .before .args .terms .at) (c .before .before .before .before .before .before .before .before .before .before .before .args .k)
+    → c .admit-number .result ≡ admitNumber (c .before .before .before .before .before .before .before .before .before .before .before .args .channels .now) (withPool card (maps (c .before .before .before .before .before .before .before .before .before .before .before))) (card .head .«add_cac») (c .before .before .before .before .before .before .before .before .before .before .before .args .terms .at) (c .before .before .before .before .before .before .before .before .before .before .before .args .k)
 admitted c card h =
     let a = c .before .before .before .before .before .before .before .before .before .before .before .args in
     let x : Card = withPool card (maps (c .before .before .before .before .before .before .before .before .before .before .before)) in
@@ -64,7 +63,7 @@ returns-3 : tie.Need-returns-3
 returns-3 c =
     let a = c .before .before .before .before .before .before .before .before .before .before .before .before .before .before .before .before .before .args in
     let p : ℕ = a .terms .at in
-    let cac : Bool = a .terms .«add_cac» in
+    let cac : Bool = a .terms .head .«add_cac» in
     let pool : Pool = maps (c .before .before .before .before .before .before .before .before .before .before .before .before .before .before .before .before .before) in
     runs-by 0 (c .begin-in .ensures ∙ ap (λ (l : List ℕ). began (withAccounting pool l) p (a .k) cac (a .value)) (kept (c .before .before .before .before .before .before .before .before .before .before))) (whole-began pool (c .before .before .before .before .before .before .before .before .before .before .before .before .before .before .before .before .before .pre .1) p (a .k) cac (a .value))
     (λ card h.

@@ -8,8 +8,7 @@ use Rattle.octets.specs.Numbers.{padded}
 use Rattle.reader.proofs.Steps.{step-fits}
 use Rattle.pool.specs.declared.Pool.{Pool}
 use Rattle.pool.specs.Pool.{poolOf, Whole}
-use Rattle.card.specs.declared.Card.{Card}
-use Rattle.card.specs.Cards.{withPool}
+use Rattle.card.specs.Cards.{Card, withPool}
 use Rattle.card.specs.Outcome.{Outcome}
 use Rattle.card.specs.Parts.{HasTerms}
 use Rattle.card.proofs.Ends.{ends-as}

@@ -1,7 +1,7 @@
 use mathlib.Core.Path.{_≡_, sym, _∙_}
 use mathlib.Core.Bool.{true}
 use borrow.Author.Tests.{not-true, not-false}
-use Rattle.card.specs.declared.Card.{Card}
+use Rattle.card.specs.Cards.{Card}
 use Rattle.pool.specs.Pool.{roomIn}
 use Rattle.joins.specs.Joins.{admitNumber}
 use Rattle.joins.proofs.Lent.{room-lent}

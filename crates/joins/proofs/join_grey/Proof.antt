@@ -8,10 +8,10 @@ use Rattle.joins.proofs.join_grey.Statement.{statement}
 use Rattle.joins.proofs.join_grey.Tie as tie
 
 put-admission-requires : tie.Need-put-admission-requires
-put-admission-requires c κs = (search needs, omega (arith, id-short (c .before .before .before .before .before .before .args .ids .now) (c .before .before .before .before .before .before .args .p), ap length (c .id-at .ensures)))
+put-admission-requires c κs = (search needs, omega (arith, id-short (c .before .before .before .before .before .before .before .args .ids .now) (c .before .before .before .before .before .before .before .args .p), ap length (c .id-at .ensures)))
 
 returns : tie.Need-returns
-returns c = λ pool. grey-comes (c .before .before .before .before .before .before .before .before .before .args .ids .now) (c .before .before .before .before .before .before .before .before .before .args .p) (c .before .before .before .before .before .before .take .ensures) (c .before .before .before .id-at .ensures) pool (c .before .before .before .before .before .before .before .before .before .args .f) (c .before .before .put-admission .ensures)
+returns c = λ pool. grey-comes (c .before .before .before .before .before .before .before .before .before .before .args .ids .now) (c .before .before .before .before .before .before .before .before .before .before .args .p) (c .before .before .before .before .before .before .take .ensures) (c .before .before .before .id-at .ensures) pool (c .before .before .before .before .before .before .before .before .before .before .args .f) (c .before .before .put-admission .ensures)
 
 pub join-grey-spec : {M : Type 1} → statement M
 join-grey-spec =

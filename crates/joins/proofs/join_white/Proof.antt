@@ -2,8 +2,7 @@ use mathlib.Core.Path.{_≡_, refl, sym, ap, _∙_}
 use mathlib.Core.Bool.{Bool}
 use Rattle.pool.specs.declared.Pool.{Pool}
 use Rattle.pool.specs.Pool.{poolOf, began}
-use Rattle.card.specs.declared.Card.{Card}
-use Rattle.card.specs.Cards.{withPool}
+use Rattle.card.specs.Cards.{Card, withPool}
 use Rattle.card.specs.Outcome.{becomes}
 use Rattle.joins.specs.Joins.{admitNumber}
 use Rattle.card.specs.Parts.{HasTerms}
@@ -19,7 +18,7 @@ abbrev maps : (c : tie.Start) → Pool
 maps c = poolOf (c .args .owner .now) (c .args .channel .now) (c .args .charged .now) (c .args .accounting .now)
 
 admitted : (c : tie.After-admit-number) (card : Card) → HasTerms card (c .before .before .before .before .before .args .p) (c .before .before .before .before .before .args .terms)
-    → c .admit-number .result ≡ admitNumber (c .before .before .before .before .before .args .channels .now) (withPool card (maps (c .before .before .before .before .before))) (card .«white_cac») (c .before .before .before .before .before .args .p) (c .before .before .before .before .before .args .k)
+    → c .admit-number .result ≡ admitNumber (c .before .before .before .before .before .args .channels .now) (withPool card (maps (c .before .before .before .before .before))) (card .head .«white_cac») (c .before .before .before .before .before .args .p) (c .before .before .before .before .before .args .k)
 admitted c card h =
     let a = c .before .before .before .before .before .args in
     let pool : Pool = maps (c .before .before .before .before .before) in

@@ -12,14 +12,14 @@ inside c = c .before .is-port .ensures .1 (not-false _ (c .if1 .left))
 
 returns : tie.Need-returns
 unfolding flowsAt
-returns c = rw (sym (c .before .before .is-port .ensures .0) ∙ not-true _ (c .before .if1 .taken)) (c .no-rows .ensures)
+returns c areas = rw (sym (c .before .before .is-port .ensures .0) ∙ not-true _ (c .before .if1 .taken)) (c .no-rows .ensures)
 
 cast-rows-in-order : tie.Need-cast-rows-in-order
 cast-rows-in-order c = omega (arith, inside (c .before .before .before .before))
 
 returns-2 : tie.Need-returns-2
 unfolding flowsAt
-returns-2 c = rw (sym (c .before .before .before .before .before .before .is-port .ensures .0) ∙ not-false _ (c .before .before .before .before .before .if1 .left)) (c .rows-in-order .ensures .0 (c .before .before .before .before .before .before .before .args .card .pool .charged) (c .before .before .before .before .before .before .before .args .card .pool .accounting))
+returns-2 c areas = rw (sym (c .before .before .before .before .before .before .is-port .ensures .0) ∙ not-false _ (c .before .before .before .before .before .if1 .left)) (c .rows-in-order .ensures .0 (c .before .before .before .before .before .before .before .args .core .pool .charged) (c .before .before .before .before .before .before .before .args .core .pool .accounting))
 
 pub flows-of-spec : {M : Type 1} → statement M
 flows-of-spec =

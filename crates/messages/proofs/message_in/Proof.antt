@@ -11,8 +11,8 @@ use Rattle.pool.specs.Pool.{poolOf}
 use Rattle.card.specs.Cards.{withPool}
 use Rattle.card.proofs.Parts.{comes-kept, comes-as}
 use Rattle.checks.specs.Table.{portNamed}
-use Rattle.messages.specs.Messages.{byResult, namedIn}
-use Rattle.messages.proofs.Cases.{size-least, rest-short, no-room, bad-size, unusable-is, usable-is}
+use Rattle.messages.specs.Messages.{byResult}
+use Rattle.messages.proofs.Cases.{size-least, rest-short, named-usable, no-room, bad-size, unusable-is, usable-is}
 use borrow.Author.Needs.{needs}
 use Rattle.messages.proofs.message_in.Statement.{statement}
 use Rattle.messages.proofs.message_in.Tie as tie
@@ -40,10 +40,9 @@ part-by-result-start : tie.Need-part-by-result-start
 part-by-result-start c = omega (arith, size-least (c .before .before .before .before .before .before .before .before .before .before .before .before .before .args .octets .now) (size (c .before .before .before .before .before .before .before .before)))
 
 by-result-requires : tie.Need-by-result-requires
-unfolding namedIn
 by-result-requires c κs =
     let a = c .before .before .before .before .before .before .before .before .before .before .before .before .before .before .before .args in
-    (c .before .before .before .before .before .before .before .before .before .before .before .before .before .before .before .pre .0, ((omega (arith, c .before .before .before .before .before .before .before .before .before .before .before .before .if1 .left), omega (arith, ap length (rest-part 16 (a .octets .now)), rest-short (a .octets .now) (size (c .before .before .before .before .before .before .before .before .before .before)))), (c .before .before .before .before .before .before .before .before .before .before .before .before .before .before .before .pre .1, c .before .before .before .before .before .before .before .before .before .before .before .before .before .before .before .pre .2 ∙ ap (portNamed (a .ids .now) (a .terms .«port_count»)) (sym (rest-part 16 (a .octets .now))))))
+    (c .before .before .before .before .before .before .before .before .before .before .before .before .before .before .before .pre .0, ((omega (arith, c .before .before .before .before .before .before .before .before .before .before .before .before .if1 .left), omega (arith, ap length (rest-part 16 (a .octets .now)), rest-short (a .octets .now) (size (c .before .before .before .before .before .before .before .before .before .before)))), (c .before .before .before .before .before .before .before .before .before .before .before .before .before .before .before .pre .1, c .before .before .before .before .before .before .before .before .before .before .before .before .before .before .before .pre .2 ∙ sym (named-usable (a .ids .now) (a .terms .head .«port_count») (a .octets .now) (size (c .before .before .before .before .before .before .before .before .before .before)) (sym (c .before .before .before .before .before .before .before .before .before .read-header .ensures) ∙ c .before .before .before .before .before .before .before .head .given .1)) ∙ ap (portNamed (a .ids .now) (a .terms .head .«port_count»)) (sym (rest-part 16 (a .octets .now))))))
 
 returns-3 : tie.Need-returns-3
 returns-3 c = let a = c .before .before .before .before .before .before .before .before .before .args in comes-kept refl 15 (c .unchanged3 .ensures) (λ card t. unusable-is (a .ids .now) (a .channels .now) (withPool card (maps (c .before .before .before .before .before .before .before .before .before))) (a .octets .now) _ (full (c .before .before .before .before .before .before)) (size (c .before .before .before .before)) (sym (c .before .before .before .read-header .ensures) ∙ c .before .enum-told .given .1))
