@@ -1,23 +1,29 @@
 -- Comparing octets from the end, and what is found among the circuit ids.
 --     back-on, back-off    one turn of the comparison: the octets before the last that was compared are left
+--     same-none            a list is the same as the empty one if it is empty
 --     port-found           the port that is found is one of the n, has the id, and is the first that does
 --     port-none            where none is found no port has the id
 --     id-short, id-length  a circuit id has at most 63 octets, and as many as its row says
+--     other-id             a row with another octet in one place does not have the id
+--     id-skip              a search goes on to the next row that has the id's octet in that place
 -- Assumes nothing.
-use Prim.Native.Nat.{ℕ, suc, _+_, _-_, _*_, _≤_, _<_, min}
-use mathlib.Core.Path.{_≡_, sym, ap, ap₂, _∙_}
+use Prim.Native.Nat.{ℕ, suc, _+_, _-_, _*_, _%_, _≤_, _<_, min}
+use mathlib.Core.Path.{_≡_, refl, sym, ap, ap₂, _∙_}
 use mathlib.Core.Bool.{Bool, false, _&&_, and-true, and-false, false≢true}
 use mathlib.Core.List.{List, [], _∷_}
-use lib.ListN.{length, take, getD, length-take, length-drop}
-use lib.Seq.{take-suc, length-take-le}
-use lib.Dec.{eqb}
+use lib.ListN.{length, take, drop, getD, length-take, length-drop}
+use lib.Seq.{take-suc, length-take-le, getD-take, getD-drop}
+use lib.Dec.{eqb, ltb}
 use native.Mathlib.Omega.{arith}
-use borrow.Author.Tests.{eq-eqb, ne-eqb}
+use borrow.Author.Tests.{eq-eqb, ne-eqb, le-ltb}
 use Rattle.flows.specs.Words.{same}
-use Rattle.flows.proofs.Same.{same-append, same-eq, same-refl}
+use Rattle.flows.proofs.Same.{same-append, same-eq, same-refl, same-off}
+use Rattle.rows.specs.Rows.{firstFrom, NextWith}
+use Rattle.rows.specs.declared.Found.{Found}
 use Rattle.rows.specs.declared.Found.the-variants.{At, Nothing}
 use Rattle.rows.proofs.Rows.{found-at, found-none}
-use Rattle.circuits.specs.Circuits.{idLength, idAt, hasId, portOf}
+use Rattle.rows.proofs.Nexts.{first-over}
+use Rattle.circuits.specs.Circuits.{idLength, idAt, idOctet, hasId, portOf}
 
 pub upto : (a b : List ℕ) (i : ℕ) → 0 < i → same (take i a) (take i b) ≡ same (take (suc (i - 1)) a) (take (suc (i - 1)) b)
 upto a b i h = let e : i ≡ suc (i - 1) = omega arith in ap (λ (n : ℕ). same (take n a) (take n b)) e
@@ -35,6 +41,12 @@ module _ (a b : List ℕ) (i : ℕ) (ha : i < length a) (hb : i < length b) wher
 
   pub back-off : (getD a i 0 ≡ getD b i 0 → ⊥) → same (take (suc i) a) (take (suc i) b) ≡ false
   back-off e = last ∙ simp (ne-eqb (getD a i 0) (getD b i 0) e, and-false)
+
+pub same-none : (a b : List ℕ) → length b < 1 → ltb (length a) 1 ≡ same a b
+unfolding same
+same-none [] [] h = refl
+same-none (x ∷ a) [] h = le-ltb (length (x ∷ a)) 1 (omega arith)
+same-none a (y ∷ b) h = absurd (omega arith)
 
 pub id-short : (ids : List ℕ) (p : ℕ) → length (idAt ids p) < 64
 unfolding idAt
@@ -69,3 +81,24 @@ module _ (ids : List ℕ) (n : ℕ) (id : List ℕ) where
   pub port-none : portOf ids n id ≡ Nothing → (p : ℕ) → p < n → p < 64 → idAt ids p ≡ id → ⊥
   unfolding portOf
   port-none e p l m s = differ p (found-none (hasId ids id) (min n 64) e p (omega arith)) s
+
+-- ---- octet k of an id, counted from 1
+module _ (ids id : List ℕ) (k : ℕ) (h : 0 < k) (l : k ≤ length id) where
+  octet-there : (p : ℕ) → idAt ids p ≡ id → idOctet ids k p ≡ getD id (k - 1) 0
+  unfolding idAt
+  octet-there p e =
+      let m : ℕ = idLength ids p % 64 in
+      let d : List ℕ = drop (p * 64 + 1) ids in
+      let i : ℕ = k - 1 in
+      let z : p * 64 + k ≡ p * 64 + 1 + i = omega arith in
+      ap (λ (j : ℕ). getD ids j 0) z
+      ∙ sym (getD-drop (p * 64 + 1) ids i 0)
+      ∙ sym (getD-take m d i 0 (omega (arith, ap length e, length-take m d)))
+      ∙ ap (λ (x : List ℕ). getD x i 0) e
+
+  pub other-id : (p : ℕ) → (idOctet ids k p ≡ getD id (k - 1) 0 → ⊥) → hasId ids id p ≡ false
+  other-id p n = same-off (idAt ids p) id (λ e. n (octet-there p e))
+
+  pub id-skip : (i n : ℕ) {j : ℕ} {r : Found} → r ≡ firstFrom i (n - i) (hasId ids id)
+      → NextWith (idOctet ids k) (getD id (k - 1) 0) n i j → r ≡ firstFrom j (n - j) (hasId ids id)
+  id-skip i n {j} inv x = first-over (hasId ids id) i n j inv (x .reached) (x .most) (λ m a b. other-id m (x .others m a b))

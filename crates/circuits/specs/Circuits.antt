@@ -15,6 +15,10 @@ idLength ids p = getD ids (p * 64) 0
 unfoldable pub idAt : List ℕ → ℕ → List ℕ
 idAt ids p = take (idLength ids p % 64) (drop (p * 64 + 1) ids)
 
+-- octet k of row p
+abbrev pub idOctet : List ℕ → ℕ → ℕ → ℕ
+idOctet ids k p = getD ids (p * 64 + k) 0
+
 -- port p has the circuit id, compared octet by octet
 abbrev pub hasId : List ℕ → List ℕ → ℕ → Bool
 hasId ids id p = same (idAt ids p) id
