@@ -19,7 +19,7 @@ static ancp_card fresh(bool add) {
     for (unsigned p = 0; p < 64; p++) { ids[p * 64] = 1; ids[p * 64 + 1] = (uint8_t)(p + 1); }
     for (unsigned k = 0; k < 256; k++) { uint32_t *r = channels + k * 11; r[0] = 1; r[2] = 1; r[3] = nth(k).group[0]; }
     for (unsigned i = 0; i < 128; i++) { uint32_t *e = entries + i * 12; e[0] = 1; e[1] = 1; e[2] = i == 127 ? 4 : 32; e[4] = i == 127 ? 0xE0000000u : 0xEF000000u + i; }
-    ancp_card c = ancp_card_started(ids, 64, channels, 256, entries, 128, true, add, 1).card;
+    ancp_card c = {ancp_card_started(ids, 64, channels, 256, entries, 128, true, add, 1).core};
     for (size_t p = 0; p < 64; p++) { ancp_card_port_up(&c, &tables, p); ancp_card_set_delegation(&c, &tables, p, 1000000); }
     return c;
 }
@@ -47,16 +47,16 @@ static int prefix(uint32_t n, const uint32_t *a, const uint32_t *b) {
     return 1;
 }
 
-__attribute__((noinline)) static int plain_join(ancp_card *c, size_t p, const ancp_flow *f) {
-    if (p >= c->port_count) return 7;
+__attribute__((noinline)) static int plain_join(ancp_core *c, size_t p, const ancp_flow *f) {
+    if (p >= c->head.port_count) return 7;
     if (!c->ports[p].up) return 6;
     size_t k = 0;
-    while (k < c->channel_count && !same(f, channels + k * 11)) k++;
-    if (k == c->channel_count) return 9;
+    while (k < c->head.channel_count && !same(f, channels + k * 11)) k++;
+    if (k == c->head.channel_count) return 9;
     for (int i = 0; i < 512; i++) if (c->pool.owner[i] == p && c->pool.channel[i] == k) return 1;
     static const uint32_t strength[4] = {0, 1, 3, 2};
     uint32_t best = 0;
-    for (size_t i = 0; i < c->entry_count; i++) {
+    for (size_t i = 0; i < c->head.entry_count; i++) {
         const uint32_t *e = entries + i * 12;
         if (e[0] != f->family || !prefix(e[2], e + 4, f->group) || e[3] != 0) continue;
         uint32_t s = e[2] * 4 + strength[e[1] & 3];
@@ -73,8 +73,8 @@ __attribute__((noinline)) static int plain_join(ancp_card *c, size_t p, const an
     }
     for (int q = 0; q < 64; q++) if (count[q] > 4) extras += count[q] - 4;
     if (unused == 512 || !(count[p] < 4 || (count[p] < 16 && extras < 256))) return 5;
-    if (c->white_cac && sum + channels[k * 11 + 2] > c->ports[p].delegation) return 4;
-    c->pool.owner[unused] = (uint8_t)p; c->pool.channel[unused] = (uint8_t)k; c->pool.charged[unused] = c->white_cac; c->pool.accounting[unused] = 0;
+    if (c->head.white_cac && sum + channels[k * 11 + 2] > c->ports[p].delegation) return 4;
+    c->pool.owner[unused] = (uint8_t)p; c->pool.channel[unused] = (uint8_t)k; c->pool.charged[unused] = c->head.white_cac; c->pool.accounting[unused] = 0;
     return 0;
 }
 
@@ -88,7 +88,7 @@ static void joins(void) {
         double t0 = now();
         for (int r = 0; r < rounds; r++) { d = c; a += ancp_card_join(&d, &tables, 63, which[i], reply, sizeof reply, NULL); }
         double t1 = now();
-        for (int r = 0; r < rounds; r++) { d = c; b += plain_join(&d, 63, which[i]); }
+        for (int r = 0; r < rounds; r++) { d = c; b += plain_join(&d.core, 63, which[i]); }
         double t2 = now();
         printf("join, %s channel, full pool: proved %.0f ns, plain C %.0f ns, each with the card copied once for it%s\n", i ? "last" : "fourth", (t1 - t0) / rounds, (t2 - t1) / rounds, a == b ? "" : " DIFFERENT");
     }
@@ -122,6 +122,33 @@ static double measure(const char *what, const ancp_card *c, const uint8_t *m, si
     return ns;
 }
 
+/* a message that gets 15 keeps the card, which is therefore not copied for it */
+static void unusable(const char *what, ancp_card *c, const uint8_t *m, size_t n) {
+    int rounds = 20000;
+    unsigned answer = 0;
+    double t0 = now();
+    for (int r = 0; r < rounds; r++) answer += ancp_card_message(c, &tables, m, n, reply, sizeof reply, NULL);
+    printf("%-50s %8.0f ns   (answer %u)\n", what, (now() - t0) / rounds, answer / (unsigned)rounds);
+}
+
+static void unusables(void) {
+    static uint8_t m[115200];
+    static ancp_card c;
+    c = filled(true);
+    unusable("unusable: 16 octets of zeros", &c, m, 16);
+    unusable("unusable: 115,200 octets of zeros", &c, m, sizeof m);
+    size_t n = target(m, head(m, 148, 2), 63);
+    close16(m, n);
+    m[4] = 0x31;
+    unusable("unusable: 28 octets, version 0x31", &c, m, n);
+    n = head(m, 148, 2);
+    while (n + 4 <= 4084) { n = put16(m, n, 0x7777); n = put16(m, n, 0); }
+    n = target(m, n, 63);
+    close16(m, n);
+    m[4] = 0x31;
+    unusable("unusable: 4,096 octets, version 0x31", &c, m, n);
+}
+
 static void messages(void) {
     static uint8_t m[4096];
     static ancp_card c;
@@ -147,6 +174,9 @@ static void messages(void) {
     }
     size_t n = target(m, head(m, 148, 2), 0);
     measure("148", &c, m, close16(m, n));
+    n = target(m, head(m, 148, 2), 63);
+    measure("148, last of 64 ports", &c, m, close16(m, n));
+    n = target(m, head(m, 148, 2), 0);
     head(m, 149, 2);
     measure("149, 16 flows", &c, m, close16(m, n));
     double small = 0;
@@ -208,6 +238,7 @@ static void stack(void) {
 int main(void) {
     joins();
     messages();
+    unusables();
 #ifndef __SANITIZE_ADDRESS__ /* a sanitizer's frames are not the library's */
     stack();
 #endif

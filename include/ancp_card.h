@@ -86,47 +86,45 @@ static inline void ancp_set_entry(ancp_tables *t, size_t i, uint32_t list, const
 typedef struct { bool up, asking; uint32_t delegation, required, preferred, transaction; } ancp_port;
 typedef struct { uint8_t owner[512], channel[512]; bool charged[512]; uint8_t accounting[512]; } ancp_pool;
 typedef struct { uint32_t number; } ancp_counter;
-typedef struct {
-    ancp_port ports[ANCP_PORTS];
-    ancp_pool pool;
-    ancp_counter counter;
-    size_t port_count, channel_count, entry_count;
-    bool white_cac, add_cac;
-} ancp_card;
+typedef struct { size_t port_count, channel_count, entry_count; ancp_counter counter; bool white_cac, add_cac; } ancp_head;
+typedef struct { ancp_port ports[ANCP_PORTS]; ancp_pool pool; ancp_head head; } ancp_core;
+
+/* arrays that are lent beside the core stand here, behind it */
+typedef struct { ancp_core core; } ancp_card;
 
 /* the channels of a port's active flows in order: the first `count` of `rows` */
 typedef struct { size_t count; uint8_t rows[16]; } ancp_rows;
 
 /* ---- the proved functions */
-enum { ANCP_CALL_UP = 0, ANCP_CALL_DOWN = 1, ANCP_CALL_DELEGATION = 2, ANCP_CALL_JOIN = 3, ANCP_CALL_LEAVE = 4, ANCP_CALL_ASK = 5, ANCP_CALL_MESSAGE = 6 };
+enum { ANCP_CALL_UP = 0, ANCP_CALL_DOWN = 1, ANCP_CALL_DELEGATION = 2, ANCP_CALL_JOIN = 3, ANCP_CALL_LEAVE = 4, ANCP_CALL_ASK = 5, ANCP_CALL_MESSAGE = 255 };
 
 /* a call with its arguments; `amount` is the delegation that is set, or what is required when the host asks */
 typedef struct { uint8_t which; size_t port; uint32_t amount, preferred; ancp_flow flow; } ancp_call;
 typedef struct { uint8_t number; size_t length; } ancp_answer;
-typedef struct { ancp_card card; uint8_t number; } ancp_started;
+typedef struct { ancp_core core; uint8_t number; } ancp_started;
 
 ancp_started ancp_card_started(const uint8_t *ids, size_t ports, const uint32_t *channels, size_t channel_count, const uint32_t *entries,
                                size_t entry_count, bool white_cac, bool add_cac, uint32_t first);
 
-/* Any call: *card and the start of `reply` are written, nothing else. Nothing of the card is copied but one port's record and the
-   few numbers beside the maps (counts, switches, counter). */
-ancp_answer ancp_card_call(ancp_card *card, const uint8_t *ids, const uint32_t *channels, const uint32_t *entries, ancp_call call, const uint8_t *octets,
+/* Any call: *core and the start of `reply` are written, nothing else. Nothing of the core is copied but one port's record and its head
+   (counter, counts, switches). */
+ancp_answer ancp_card_call(ancp_core *core, const uint8_t *ids, const uint32_t *channels, const uint32_t *entries, ancp_call call, const uint8_t *octets,
                            size_t n, uint8_t *reply, size_t room);
 
-/* the readers take the card by value */
-bool ancp_card_up_in(ancp_card card, size_t p);
-uint32_t ancp_card_delegation_in(ancp_card card, size_t p);
-uint64_t ancp_card_committed_in(ancp_card card, const uint32_t *channels, size_t p);
-ancp_rows ancp_card_flows_in(ancp_card card, const uint32_t *channels, size_t p);
-bool ancp_card_active_in(ancp_card card, const uint32_t *channels, size_t p, ancp_flow f);
-size_t ancp_card_extras_in(ancp_card card);
-uint32_t ancp_card_next_in(ancp_card card);
+/* the readers take the core by value */
+bool ancp_card_up_in(ancp_core core, size_t p);
+uint32_t ancp_card_delegation_in(ancp_core core, size_t p);
+uint64_t ancp_card_committed_in(ancp_core core, const uint32_t *channels, size_t p);
+ancp_rows ancp_card_flows_in(ancp_core core, const uint32_t *channels, size_t p);
+bool ancp_card_active_in(ancp_core core, const uint32_t *channels, size_t p, ancp_flow f);
+size_t ancp_card_extras_in(ancp_core core);
+uint32_t ancp_card_next_in(ancp_core core);
 
 /* ---- for the host. Each call updates *card and returns its number; `length` gets how many octets of reply are written, and beyond them the
    buffer is kept. Numbers 1 and 3 to 16 keep card and buffer. */
 static inline uint8_t ancp_calls(ancp_card *card, const ancp_tables *t, ancp_call call, const uint8_t *octets, size_t n, uint8_t *reply, size_t room,
                                  size_t *length) {
-    ancp_answer a = ancp_card_call(card, t->ids, t->channels, t->entries, call, octets, n, reply, room);
+    ancp_answer a = ancp_card_call(&card->core, t->ids, t->channels, t->entries, call, octets, n, reply, room);
     if (length) *length = a.length;
     return a.number;
 }
@@ -153,7 +151,7 @@ static inline ancp_call ancp_call_with(uint8_t which, size_t p, const ancp_flow 
 static inline uint8_t ancp_card_start(ancp_card *card, const ancp_tables *t, size_t ports, size_t channels, size_t entries, bool white_cac,
                                       bool add_cac, uint32_t first) {
     ancp_started s = ancp_card_started(t->ids, ports, t->channels, channels, t->entries, entries, white_cac, add_cac, first);
-    if (s.number == ANCP_DONE) *card = s.card;
+    if (s.number == ANCP_DONE) card->core = s.core;
     return s.number;
 }
 
@@ -194,13 +192,13 @@ static inline uint8_t ancp_card_message(ancp_card *card, const ancp_tables *t, c
 }
 
 /* What a host may read. Of a number that is no port's: down, 0, no flows. */
-static inline bool ancp_card_is_up(const ancp_card *card, size_t p) { return ancp_card_up_in(*card, p); }
-static inline uint32_t ancp_card_delegation(const ancp_card *card, size_t p) { return ancp_card_delegation_in(*card, p); }
-static inline uint64_t ancp_card_committed(const ancp_card *card, const ancp_tables *t, size_t p) { return ancp_card_committed_in(*card, t->channels, p); }
-static inline ancp_rows ancp_card_flows(const ancp_card *card, const ancp_tables *t, size_t p) { return ancp_card_flows_in(*card, t->channels, p); }
-static inline bool ancp_card_is_active(const ancp_card *card, const ancp_tables *t, size_t p, const ancp_flow *f) { return ancp_card_active_in(*card, t->channels, p, *f); }
-static inline size_t ancp_card_extras(const ancp_card *card) { return ancp_card_extras_in(*card); }
-static inline uint32_t ancp_card_next_transaction(const ancp_card *card) { return ancp_card_next_in(*card); }
+static inline bool ancp_card_is_up(const ancp_card *card, size_t p) { return ancp_card_up_in(card->core, p); }
+static inline uint32_t ancp_card_delegation(const ancp_card *card, size_t p) { return ancp_card_delegation_in(card->core, p); }
+static inline uint64_t ancp_card_committed(const ancp_card *card, const ancp_tables *t, size_t p) { return ancp_card_committed_in(card->core, t->channels, p); }
+static inline ancp_rows ancp_card_flows(const ancp_card *card, const ancp_tables *t, size_t p) { return ancp_card_flows_in(card->core, t->channels, p); }
+static inline bool ancp_card_is_active(const ancp_card *card, const ancp_tables *t, size_t p, const ancp_flow *f) { return ancp_card_active_in(card->core, t->channels, p, *f); }
+static inline size_t ancp_card_extras(const ancp_card *card) { return ancp_card_extras_in(card->core); }
+static inline uint32_t ancp_card_next_transaction(const ancp_card *card) { return ancp_card_next_in(card->core); }
 
 #ifdef __cplusplus
 }

@@ -29,17 +29,24 @@ struct RawCounter {
     number: u32,
 }
 
+/// What is neither a port's nor a record's.
 #[repr(C)]
 #[derive(Clone, Copy, PartialEq)]
-pub struct RawCard {
-    ports: [RawPort; MAX_PORTS],
-    pool: RawPool,
-    counter: RawCounter,
+struct RawHead {
     port_count: usize,
     channel_count: usize,
     entry_count: usize,
+    counter: RawCounter,
     white_cac: bool,
     add_cac: bool,
+}
+
+#[repr(C)]
+#[derive(Clone, Copy, PartialEq)]
+pub struct RawCore {
+    ports: [RawPort; MAX_PORTS],
+    pool: RawPool,
+    head: RawHead,
 }
 
 #[repr(C)]
@@ -79,7 +86,7 @@ struct RawAnswer {
 #[repr(C)]
 #[derive(Clone, Copy)]
 struct RawStarted {
-    card: RawCard,
+    core: RawCore,
     number: u8,
 }
 
@@ -99,7 +106,7 @@ extern "C" {
         first: u32,
     ) -> RawStarted;
     fn ancp_card_call(
-        card: *mut RawCard,
+        core: *mut RawCore,
         ids: Ids,
         channels: Words,
         entries: Words,
@@ -109,13 +116,13 @@ extern "C" {
         reply: *mut u8,
         room: usize,
     ) -> RawAnswer;
-    fn ancp_card_up_in(card: RawCard, p: usize) -> bool;
-    fn ancp_card_delegation_in(card: RawCard, p: usize) -> u32;
-    fn ancp_card_committed_in(card: RawCard, channels: Words, p: usize) -> u64;
-    fn ancp_card_flows_in(card: RawCard, channels: Words, p: usize) -> RawRows;
-    fn ancp_card_active_in(card: RawCard, channels: Words, p: usize, f: RawFlow) -> bool;
-    fn ancp_card_extras_in(card: RawCard) -> usize;
-    fn ancp_card_next_in(card: RawCard) -> u32;
+    fn ancp_card_up_in(core: RawCore, p: usize) -> bool;
+    fn ancp_card_delegation_in(core: RawCore, p: usize) -> u32;
+    fn ancp_card_committed_in(core: RawCore, channels: Words, p: usize) -> u64;
+    fn ancp_card_flows_in(core: RawCore, channels: Words, p: usize) -> RawRows;
+    fn ancp_card_active_in(core: RawCore, channels: Words, p: usize, f: RawFlow) -> bool;
+    fn ancp_card_extras_in(core: RawCore) -> usize;
+    fn ancp_card_next_in(core: RawCore) -> u32;
 }
 
 /// The start's tables as the C functions take them.
@@ -135,7 +142,7 @@ pub struct ProvedAnswer {
 /// A card with its tables, which copies share.
 #[derive(Clone)]
 pub struct Proved {
-    card: RawCard,
+    core: RawCore,
     tables: Rc<Tables>,
     /// How port 0 stands in the pool's owner map: 1 if 0 marks a free record there.
     first_owner: u8,
@@ -159,7 +166,7 @@ impl Proved {
             )
         };
         match started.number {
-            0 => Ok(Proved { card: started.card, tables, first_owner: (started.card.pool.owner[0] == 0) as u8 }),
+            0 => Ok(Proved { core: started.core, tables, first_owner: (started.core.pool.owner[0] == 0) as u8 }),
             number => Err(number),
         }
     }
@@ -167,7 +174,7 @@ impl Proved {
     fn call(&mut self, call: RawCall, octets: &[u8], reply: &mut [u8]) -> ProvedAnswer {
         let answer = unsafe {
             ancp_card_call(
-                &mut self.card,
+                &mut self.core,
                 self.tables.ids.as_ptr(),
                 self.tables.channels.as_ptr(),
                 self.tables.entries.as_ptr(),
@@ -217,49 +224,49 @@ impl Proved {
 /// The readers.
 impl Proved {
     pub fn is_up(&self, p: usize) -> bool {
-        unsafe { ancp_card_up_in(self.card, p) }
+        unsafe { ancp_card_up_in(self.core, p) }
     }
 
     pub fn delegation(&self, p: usize) -> u32 {
-        unsafe { ancp_card_delegation_in(self.card, p) }
+        unsafe { ancp_card_delegation_in(self.core, p) }
     }
 
     pub fn committed(&self, p: usize) -> u64 {
-        unsafe { ancp_card_committed_in(self.card, self.channels(), p) }
+        unsafe { ancp_card_committed_in(self.core, self.channels(), p) }
     }
 
     /// The channel rows of the port's flows, in order; none if the count is above 16.
     pub fn flows(&self, p: usize) -> Option<Vec<u8>> {
-        let rows = unsafe { ancp_card_flows_in(self.card, self.channels(), p) };
+        let rows = unsafe { ancp_card_flows_in(self.core, self.channels(), p) };
         rows.rows.get(..rows.count).map(<[u8]>::to_vec)
     }
 
     pub fn is_active(&self, p: usize, f: &HostFlow) -> bool {
-        unsafe { ancp_card_active_in(self.card, self.channels(), p, raw_flow(f)) }
+        unsafe { ancp_card_active_in(self.core, self.channels(), p, raw_flow(f)) }
     }
 
     pub fn extras(&self) -> usize {
-        unsafe { ancp_card_extras_in(self.card) }
+        unsafe { ancp_card_extras_in(self.core) }
     }
 
     pub fn next_transaction(&self) -> u32 {
-        unsafe { ancp_card_next_in(self.card) }
+        unsafe { ancp_card_next_in(self.core) }
     }
 
     /// The whole record, to see that a refusal keeps it.
-    pub fn record(&self) -> RawCard {
-        self.card
+    pub fn record(&self) -> RawCore {
+        self.core
     }
 
     /// No reader gives the open request or a flow's marks; they are read from the record itself.
     pub fn request(&self, p: usize) -> Option<Request> {
-        let port = self.card.ports.get(p).filter(|port| port.asking)?;
+        let port = self.core.ports.get(p).filter(|port| port.asking)?;
         Some(Request { transaction: port.transaction, required: port.required, preferred: port.preferred })
     }
 
     /// Accounting and charge of the port's flow on a channel row.
     pub fn marks(&self, p: usize, row: u8) -> Option<(u8, bool)> {
-        let pool = &self.card.pool;
+        let pool = &self.core.pool;
         let owner = p as u8 + self.first_owner;
         let record = (0..512).find(|&i| pool.owner[i] == owner && pool.channel[i] == row)?;
         Some((pool.accounting[record], pool.charged[record]))
@@ -273,7 +280,7 @@ const DELEGATION: u8 = 2;
 const JOIN: u8 = 3;
 const LEAVE: u8 = 4;
 const ASK: u8 = 5;
-const MESSAGE: u8 = 6;
+const MESSAGE: u8 = 255;
 
 const NO_FLOW: RawFlow = RawFlow { family: 0, sourced: 0, group: [0; 4], source: [0; 4] };
 

@@ -5,7 +5,7 @@
 --     of-number                  the host's call of number n
 --     gives                      a call by value, from the call on the core's parts
 -- Assumes nothing.
-use mathlib.Core.Path.{_≡_, sym, ap, subst, _∙_}
+use mathlib.Core.Path.{_≡_, refl, sym, ap, subst, _∙_}
 use mathlib.Core.List.{List}
 use Prim.Native.Nat.{ℕ, _<_, _≤_}
 use borrow.Author.Tests.{lt-ltb, le-ltb}
@@ -56,14 +56,12 @@ module _ (card : Card) (ids channels entries : List ℕ) (c : HostCall) (room : 
     unfolding outcomeOf callOf
     of-message l = rw (le-ltb (c .which) 6 l)
 
--- a call by value: its terms are read off the core, and what it gave is put into the core
-pub gives : {o : Card → Outcome} {p : ℕ} {terms : Terms} {after : Pool} {areas left : Areas} {r : Effect} {text written : List ℕ} (core : Core)
-    → AreasComeTo o p terms (core .pool) after areas left r text written → {at : ℕ} → terms ≡ termsAt (cardOf core areas) at → (p < 64 → at ≡ p)
+-- a call by value, on the port at this place: its terms are read off the core, and what it gave is put into the core
+pub gives : {o : Card → Outcome} {p : ℕ} {after : Pool} {areas left : Areas} {r : Effect} {text written : List ℕ} (core : Core) (at : ℕ) → (p < 64 → at ≡ p)
+    → AreasComeTo o p (termsAt (cardOf core areas) at) (core .pool) after areas left r text written
     → {d : Returned} → d ≡ returnedOf (doneWith (cardOf core left) at after r) → CallGives (o (cardOf core areas)) d left text written
-gives {o} {p} {terms} {after} {areas} {left} {r} {text} {written} core g e k f =
-    let there = ap (λ (t : Terms). t .at) e in
-    let ends = g .each (cardOf core areas) (record { same = ap (termsAt (cardOf core areas)) there ∙ sym e; place = λ l. there ∙ k l }) in
-    let same = f ∙ ap (λ (i : ℕ). returnedOf (doneWith (cardOf core left) i after r)) (sym there) in
+gives {areas = areas} core at k g same =
+    let ends = g .each (cardOf core areas) (record { same = refl; place = k }) in
     record {
       core = ap (λ (c : Returned). c .core) same ∙ ap (λ (d : Done). coreOf (d .card)) (ends .gives);
       number = ap (λ (c : Returned). c .number) same ∙ ap (λ (d : Done). d .number) (ends .gives);

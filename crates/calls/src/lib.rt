@@ -1,17 +1,19 @@
 // Any call, by its number: on a core by value, for programs, and on the parts of a card.
+use card::CardHead;
 use card::Core;
 use card::Effect;
 use card::Returned;
 use card::Terms;
 use flows::Flow;
 use pool::Pool;
+use ports::Port;
 ghost use mathlib.Core.Path.{_≡_};
 ghost use mathlib.Core.List.{List};
 ghost use Prim.Native.Nat.{ℕ, _<_};
 ghost use lib.ListN.{length};
 ghost use Rattle.pool.specs.Pool.{poolOf, Whole};
 ghost use Rattle.card.specs.Cards.{noAreas, cardOf};
-ghost use Rattle.card.specs.Parts.{AreasComeTo};
+ghost use Rattle.card.specs.Parts.{termsOf, AreasComeTo};
 ghost use Rattle.demand3.specs.Calls.{outcomeOf};
 ghost use Rattle.calls.specs.Calls.{tablesOf, hosted, callOf, portAbout, CallGives};
 
@@ -79,7 +81,8 @@ pub fn call(
 {
     let p = port_of(ids, core.head.port_count, call, octets);
     let at = card::slot(p);
-    let terms = card::terms_at(core, at);
+    let head = core.head;
+    let x = core.ports[at];
     let mut owner = core.pool.owner;
     let mut channel = core.pool.channel;
     let mut charged = core.pool.charged;
@@ -92,7 +95,9 @@ pub fn call(
         ids,
         channels,
         entries,
-        terms,
+        at,
+        head,
+        x,
         p,
         call,
         octets,
@@ -127,14 +132,16 @@ pub fn call_in(
     ids: &[u8; 4096],
     channels: &[u32; 2816],
     entries: &[u32; 1536],
-    terms: Terms,
+    at: usize,
+    head: CardHead,
+    x: Port,
     p: usize,
     call: HostCall,
     octets: &[u8],
     reply: &mut [u8],
 ) -> Effect
-    requires { ⌜ Whole (poolOf (now owner) (now channel) (now charged) (now accounting)) × (terms .at < 64) × (p ≡ portAbout (now ids) (terms .head .«port_count») call (now octets)) ⌝ }
-    ensures { λ r. ⌜ AreasComeTo (λ card. outcomeOf (tablesOf card (now (ids .entry)) (now (channels .entry)) (now (entries .entry))) card (callOf call (now (octets .entry)) (length (now (reply .entry))))) p terms (poolOf (now (owner .entry)) (now (channel .entry)) (now (charged .entry)) (now (accounting .entry))) (poolOf (now (owner .exit)) (now (channel .exit)) (now (charged .exit)) (now (accounting .exit))) noAreas noAreas r (now (reply .entry)) (now (reply .exit)) ⌝ }
+    requires { ⌜ Whole (poolOf (now owner) (now channel) (now charged) (now accounting)) × (at < 64) × (p ≡ portAbout (now ids) (head .«port_count») call (now octets)) ⌝ }
+    ensures { λ r. ⌜ AreasComeTo (λ card. outcomeOf (tablesOf card (now (ids .entry)) (now (channels .entry)) (now (entries .entry))) card (callOf call (now (octets .entry)) (length (now (reply .entry))))) p (termsOf at head x) (poolOf (now (owner .entry)) (now (channel .entry)) (now (charged .entry)) (now (accounting .entry))) (poolOf (now (owner .exit)) (now (channel .exit)) (now (charged .exit)) (now (accounting .exit))) noAreas noAreas r (now (reply .entry)) (now (reply .exit)) ⌝ }
 {
     if call.which < 6 {
         return host_in(
@@ -145,7 +152,9 @@ pub fn call_in(
             ids,
             channels,
             entries,
-            terms,
+            at,
+            head,
+            x,
             call,
             reply,
         );
@@ -157,14 +166,14 @@ pub fn call_in(
         accounting,
         ids,
         channels,
-        terms,
+        Terms { at, head, x },
         p,
         octets,
         reply,
     )
 }
 
-// The calls that are no message.
+// The calls that are no message. Each makes its terms for itself, so that the compiler keeps of the head and the record what it needs.
 fn host_in(
     owner: &mut [u8; 512],
     channel: &mut [u8; 512],
@@ -173,22 +182,24 @@ fn host_in(
     ids: &[u8; 4096],
     channels: &[u32; 2816],
     entries: &[u32; 1536],
-    terms: Terms,
+    at: usize,
+    head: CardHead,
+    x: Port,
     call: HostCall,
     reply: &mut [u8],
 ) -> Effect
     requires { ⌜ Whole (poolOf (now owner) (now channel) (now charged) (now accounting)) ⌝ }
-    ensures { λ r. ⌜ AreasComeTo (λ card. outcomeOf (tablesOf card (now (ids .entry)) (now (channels .entry)) (now (entries .entry))) card (hosted (call .which) call (length (now (reply .entry))))) (call .port) terms (poolOf (now (owner .entry)) (now (channel .entry)) (now (charged .entry)) (now (accounting .entry))) (poolOf (now (owner .exit)) (now (channel .exit)) (now (charged .exit)) (now (accounting .exit))) noAreas noAreas r (now (reply .entry)) (now (reply .exit)) ⌝ }
+    ensures { λ r. ⌜ AreasComeTo (λ card. outcomeOf (tablesOf card (now (ids .entry)) (now (channels .entry)) (now (entries .entry))) card (hosted (call .which) call (length (now (reply .entry))))) (call .port) (termsOf at head x) (poolOf (now (owner .entry)) (now (channel .entry)) (now (charged .entry)) (now (accounting .entry))) (poolOf (now (owner .exit)) (now (channel .exit)) (now (charged .exit)) (now (accounting .exit))) noAreas noAreas r (now (reply .entry)) (now (reply .exit)) ⌝ }
 {
     let p = call.port;
     if call.which == PORT_UP {
-        return card::port_up_in(terms, p);
+        return card::port_up_in(Terms { at, head, x }, p);
     }
     if call.which == PORT_DOWN {
-        return card::port_down_in(owner, terms, p);
+        return card::port_down_in(owner, Terms { at, head, x }, p);
     }
     if call.which == SET_DELEGATION {
-        return card::set_delegation_in(owner, channel, charged, channels, terms, p, call.amount);
+        return card::set_delegation_in(owner, channel, charged, channels, Terms { at, head, x }, p, call.amount);
     }
     if call.which == JOIN {
         return joins::join_in(
@@ -199,14 +210,14 @@ fn host_in(
             ids,
             channels,
             entries,
-            terms,
+            Terms { at, head, x },
             p,
             call.flow,
             reply,
         );
     }
     if call.which == LEAVE {
-        return card::leave_in(owner, channel, channels, terms, p, call.flow);
+        return card::leave_in(owner, channel, channels, Terms { at, head, x }, p, call.flow);
     }
-    joins::ask_in(ids, terms, p, call.amount, call.preferred, reply)
+    joins::ask_in(ids, Terms { at, head, x }, p, call.amount, call.preferred, reply)
 }

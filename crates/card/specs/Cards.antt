@@ -60,10 +60,10 @@ withAreas card areas = record { ports = card .ports; pool = card .pool; head = c
 abbrev pub counted : CardHead → Counter → CardHead
 counted head counter =
     record {
-      counter = counter;
       «port_count» = head .«port_count»;
       «channel_count» = head .«channel_count»;
       «entry_count» = head .«entry_count»;
+      counter = counter;
       «white_cac» = head .«white_cac»;
       «add_cac» = head .«add_cac»;
     }

@@ -3,18 +3,23 @@
 use Prim.Native.Nat.{ℕ, _<_}
 use mathlib.Core.Path.{_≡_}
 use mathlib.Core.List.{List}
+use Rattle.ports.specs.declared.Port.{Port}
 use Rattle.ports.specs.declared.Change.{Change}
 use Rattle.ports.specs.Ports.{changedBy}
 use Rattle.pool.specs.declared.Pool.{Pool}
+use Rattle.card.specs.declared.CardHead.{CardHead}
 use Rattle.card.specs.declared.Terms.{Terms}
 use Rattle.card.specs.declared.Effect.{Effect}
 use Rattle.card.specs.declared.Returned.{Returned}
 use Rattle.card.specs.Cards.{Card, Areas, coreOf, portAt, withPort, withPool, withHead, withAreas}
 use Rattle.card.specs.Outcome.{Outcome, Done, Ends}
 
+abbrev pub termsOf : ℕ → CardHead → Port → Terms
+termsOf at head x = record { at = at; head = head; x = x }
+
 -- what a call on the port at this place of the table asks of the card besides the pool's maps
 abbrev pub termsAt : Card → ℕ → Terms
-termsAt card at = record { at = at; head = card .head; x = portAt card at }
+termsAt card at = termsOf at (card .head) (portAt card at)
 
 -- these are the card's terms, and the place is port p's where p is below 64
 pub record HasTerms (card : Card) (p : ℕ) (terms : Terms) : Type 0 where

@@ -24,10 +24,10 @@ freshCore ports channels entries white add first =
       ports = replicate 64 freshPort;
       pool = freshPool;
       head = record {
-        counter = record { number = first };
         «port_count» = ports;
         «channel_count» = channels;
         «entry_count» = entries;
+        counter = record { number = first };
         «white_cac» = white;
         «add_cac» = add;
       };

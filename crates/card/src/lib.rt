@@ -12,17 +12,17 @@ ghost use lib.ListN.{length};
 ghost use Rattle.pool.specs.Pool.{extrasOf, poolOf, withOwner};
 ghost use Rattle.card.specs.Cards.{Areas, noAreas, isPort, cardOf};
 ghost use Rattle.card.specs.Calls.{portUpOf, portDownOf, setDelegationOf, leaveOf};
-ghost use Rattle.card.specs.Parts.{termsAt, doneWith, returnedOf, ComesTo};
+ghost use Rattle.card.specs.Parts.{doneWith, returnedOf, ComesTo};
 ghost use Rattle.card.specs.Start.{freshCore, firstOk, startOf, StartGives};
 ghost use Rattle.card.specs.Figures.{upOf, delegationOf, committedAt};
 
 // What a call asks of the card that is neither a port's nor a record's.
 #[repr(C)]
 pub struct CardHead {
-    pub counter: Counter,
     pub port_count: usize,
     pub channel_count: usize,
     pub entry_count: usize,
+    pub counter: Counter,
     pub white_cac: bool,
     pub add_cac: bool,
 }
@@ -125,10 +125,10 @@ fn fresh_core(
     let port = Port::fresh();
     let counter = Counter { number: first };
     let head = CardHead {
-        counter,
         port_count,
         channel_count,
         entry_count,
+        counter,
         white_cac,
         add_cac,
     };
@@ -165,15 +165,6 @@ pub fn slot(p: usize) -> usize
     ensures { λ r. ⌜ (r < 64) × (p < 64 → r ≡ p) ⌝ }
 {
     if 64 <= p { 63 } else { p }
-}
-
-pub fn terms_at(core: Core, at: usize) -> Terms
-    requires { ⌜ at < 64 ⌝ }
-    ensures { λ r. ⌜ ((areas : Areas) → r ≡ termsAt (cardOf core areas) at) ⌝ }
-{
-    let head = core.head;
-    let x = core.ports[at];
-    Terms { at, head, x }
 }
 
 // The card with these maps, and with what a call on them gave.

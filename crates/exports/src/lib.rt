@@ -3,7 +3,6 @@
 use calls::HostCall;
 use card::Fresh;
 use card::Core;
-use card::Terms;
 use flows::Flow;
 use pool::Rows;
 ghost use mathlib.Core.Path.{_≡_};
@@ -83,7 +82,9 @@ pub extern "C" fn ancp_card_call(
         ids,
         channels,
         entries,
-        Terms { at, head, x },
+        at,
+        head,
+        x,
         p,
         call,
         octets,

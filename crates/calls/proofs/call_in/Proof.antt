@@ -15,13 +15,13 @@ maps c = poolOf (c .args .owner .now) (c .args .channel .now) (c .args .charged 
 returns : tie.Need-returns
 returns c =
     let a = c .before .before .before .before .before .before .before .before .before .before .before .before .args in
-    comes-for (host-port (a .ids .now) (a .terms .head .«port_count») (a .call) (a .octets .now) (c .before .before .before .before .before .before .before .before .before .before .before .before .pre .2) (c .before .before .before .before .before .before .before .before .if1 .taken))
+    comes-for (host-port (a .ids .now) (a .head .«port_count») (a .call) (a .octets .now) (c .before .before .before .before .before .before .before .before .before .before .before .before .pre .2) (c .before .before .before .before .before .before .before .before .if1 .taken))
     (areas-as (c .before .before .host-in .ensures) (λ card t. of-host (withAreas (withPool card (maps (c .before .before .before .before .before .before .before .before .before .before .before .before))) noAreas) (a .ids .now) (a .channels .now) (a .entries .now) (a .call) (length (a .reply .now)) (a .octets .now) (c .before .before .before .before .before .before .before .before .if1 .taken)))
 
 message-in-requires : tie.Need-message-in-requires
 message-in-requires c κs =
     let a = c .before .before .before .before .before .before .before .before .before .args in
-    (c .before .before .before .before .before .before .before .before .before .pre .0, c .before .before .before .before .before .before .before .before .before .pre .1, message-port (a .ids .now) (a .terms .head .«port_count») (a .call) (a .octets .now) (c .before .before .before .before .before .before .before .before .before .pre .2) (c .before .before .before .before .before .if1 .left))
+    (c .before .before .before .before .before .before .before .before .before .pre .0, c .before .before .before .before .before .before .before .before .before .pre .1, message-port (a .ids .now) (a .head .«port_count») (a .call) (a .octets .now) (c .before .before .before .before .before .before .before .before .before .pre .2) (c .before .before .before .before .before .if1 .left))
 
 returns-2 : tie.Need-returns-2
 returns-2 c =

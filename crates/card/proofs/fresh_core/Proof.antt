@@ -16,10 +16,10 @@ made c x y =
       ports = replicate 64 x;
       pool = y;
       head = record {
-        counter = record { number = a .first };
         «port_count» = a .port-count;
         «channel_count» = a .channel-count;
         «entry_count» = a .entry-count;
+        counter = record { number = a .first };
         «white_cac» = a .white-cac;
         «add_cac» = a .add-cac;
       };

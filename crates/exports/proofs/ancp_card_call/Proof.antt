@@ -62,7 +62,7 @@ use Rattle.pool.specs.Pool.{poolOf, Whole}
 use Rattle.pool.proofs.Pool as Q
 use Rattle.pool.proofs.Pool.Laws as Q′
 use Rattle.card.specs.declared.Core.{Core}
-use Rattle.card.specs.declared.Terms.{Terms}
+use Rattle.card.specs.declared.CardHead.{CardHead}
 use Rattle.card.specs.declared.Effect.{Effect}
 use Rattle.card.specs.Cards.{Card, Areas, noAreas, cardOf}
 use Rattle.card.specs.Outcome.{Outcome, Done}
@@ -71,8 +71,6 @@ use Rattle.card.proofs.Core as T
 use Rattle.card.proofs.Core.Laws as T′
 use Rattle.card.proofs.CardHead as Hd
 use Rattle.card.proofs.CardHead.Laws as Hd′
-use Rattle.card.proofs.Terms as Tm
-use Rattle.card.proofs.Terms.Laws as Tm′
 use Rattle.card.proofs.Effect as Ef
 use Rattle.card.proofs.Effect.Laws as Ef′
 use Rattle.demand3.specs.Calls.{outcomeOf}
@@ -174,7 +172,7 @@ scaled small = omega arith
 
 -- what `call_in` leaves in its parameters: the four maps, the words and the reply buffer
 abbrev Lasts : Type 0
-Lasts = List ℕ × (List ℕ × (List Bool × (List ℕ × (Unit {0} × (Unit {0} × (Unit {0} × (Unit {0} × (Unit {0} × (Unit {0} × (Unit {0} × (List ℕ × Unit {0})))))))))))
+Lasts = List ℕ × (List ℕ × (List Bool × (List ℕ × (Unit {0} × (Unit {0} × (Unit {0} × (Unit {0} × (Unit {0} × (Unit {0} × (Unit {0} × (Unit {0} × (Unit {0} × (List ℕ × Unit {0})))))))))))))
 
 abbrev pool-of : Lasts → Pool
 pool-of zs = poolOf (zs .0) (zs .1 .0) (zs .1 .1 .0) (zs .1 .1 .1 .0)
@@ -184,7 +182,7 @@ abbrev left : Lasts → Areas
 left zs = noAreas
 
 abbrev last : Lasts → List ℕ
-last zs = zs .1 .1 .1 .1 .1 .1 .1 .1 .1 .1 .1 .0
+last zs = zs .1 .1 .1 .1 .1 .1 .1 .1 .1 .1 .1 .1 .1 .0
 
 -- what is known of the callees
 module _ {M : Type 1} (𝓤 : URA M) (H : Heap 𝓤) (A : Atoms 𝓤) (at-mem : Memory → SProp 𝓤) (run : Routine → Fun 𝓤) where
@@ -303,24 +301,28 @@ module _ {M : Type 1} (𝓤 : URA M) (H : Heap 𝓤) (A : Atoms 𝓤) (W : Given
     abbrev lfts : Lfts 9
     lfts = (ν₀ ∷ [], (ν₁ ∷ [], (ν₂ ∷ [], (ν₃ ∷ [], κs))))
 
-    abbrev given : Lent × (Lent × (RefT (List Bool) × (Lent × (Lent × (Lent × (Lent × (Terms × (ℕ × (HostCall × (Lent × (Lent × Unit {0})))))))))))
-    given = (owner, (channel, (charged, (accounting, (ids, (channels, (entries, (termsAt card i, (p, (k, (s, (y, tt))))))))))))
+    abbrev given : Lent × (Lent × (RefT (List Bool) × (Lent × (Lent × (Lent × (Lent × (ℕ × (CardHead × (Port × (ℕ × (HostCall × (Lent × (Lent × Unit {0})))))))))))))
+    given = (owner, (channel, (charged, (accounting, (ids, (channels, (entries, (i, (h .head, (x i, (p, (k, (s, (y, tt))))))))))))))
 
-    abbrev terms-vals : List Val
-    terms-vals = LL.vals Tm.the-type Tm′.the-laws (termsAt card i)
+    abbrev head-vals : List Val
+    head-vals = LL.vals Hd.the-type Hd′.the-laws (h .head)
+
+    abbrev record-vals : List Val
+    record-vals = LL.vals P.the-type P′.the-laws (x i)
 
     abbrev to-call : Calling 𝓤 H A at-mem run .Ghost
-    to-call = ((lfts, (fullShare, (fullShare, (fullShare, (fullShare, qs)))), tt, given, (ptr-vals owner, (ptr-vals channel, (ptr-vals charged, (ptr-vals accounting, (ptr-vals ids, (ptr-vals channels, (ptr-vals entries, (terms-vals, (uint-vals w64 p, (call-vals, (slice-vals s, (slice-vals y, tt))))))))))))), tt)
+    to-call = ((lfts, (fullShare, (fullShare, (fullShare, (fullShare, qs)))), tt, given, (ptr-vals owner, (ptr-vals channel, (ptr-vals charged, (ptr-vals accounting, (ptr-vals ids, (ptr-vals channels, (ptr-vals entries, (uint-vals w64 i, (head-vals, (record-vals, (uint-vals w64 p, (call-vals, (slice-vals s, (slice-vals y, tt))))))))))))))), tt)
 
-    goes-call : Whole (h .pool) → i < 64 → p ≡ S.portAbout (ids .now) n k (s .now) → Is Tm.the-row (termsAt card i) terms-vals → p < 2 ^ 64 → Is K.the-row k call-vals
+    goes-call : Whole (h .pool) → i < 64 → p ≡ S.portAbout (ids .now) n k (s .now) → i < 2 ^ 64 → Is Hd.the-row (h .head) head-vals → Is P.the-row (x i) record-vals → p < 2 ^ 64 → Is K.the-row k call-vals
         → ent 𝓤 (sep 𝓤 (A .lft (ν₀ ∷ []) fullShare) (sep 𝓤 (A .lft (ν₁ ∷ []) fullShare) (sep 𝓤 (A .lft (ν₂ ∷ []) fullShare) (sep 𝓤 (A .lft (ν₃ ∷ []) fullShare) (sep 𝓤 (A .lft κ₁ q₁) (sep 𝓤 (A .lft κ₂ q₂) (sep 𝓤 (A .lft κ₃ q₃) (sep 𝓤 (A .lft κ₄ q₄) (sep 𝓤 (A .lft κ₅ q₅) (sep 𝓤 (sem 𝓤 H A (MutRef (named 0) (ν₀ ∷ []) (Array u8 512) .own owner (vptr b (o + pool-at + 0) ∷ []))) (sep 𝓤 (sem 𝓤 H A (MutRef (named 1) (ν₁ ∷ []) (Array u8 512) .own channel (vptr b (o + pool-at + channel-at) ∷ []))) (sep 𝓤 (sem 𝓤 H A (MutRef (named 2) (ν₂ ∷ []) (Array bool 512) .own charged (vptr b (o + pool-at + charged-at) ∷ []))) (sep 𝓤 (sem 𝓤 H A (MutRef (named 3) (ν₃ ∷ []) (Array u8 512) .own accounting (vptr b (o + pool-at + accounting-at) ∷ []))) (sep 𝓤 (sem 𝓤 H A (ShrRef (named 1) κ₁ (Array u8 4096) .own ids (ptr-vals ids))) (sep 𝓤 (sem 𝓤 H A (ShrRef (named 2) κ₂ (Array u32 2816) .own channels (ptr-vals channels))) (sep 𝓤 (sem 𝓤 H A (ShrRef (named 3) κ₃ (Array u32 1536) .own entries (ptr-vals entries))) (sep 𝓤 (sem 𝓤 H A (ShrSlice (named 4) κ₄ u8 .own s (slice-vals s))) (sem 𝓤 H A (MutSlice (named 5) κ₅ u8 .own y (slice-vals y))))))))))))))))))))
         (Calling 𝓤 H A at-mem run .pre to-call)
-    goes-call whole-is small p-eq t-is p-fits k-is =
+    goes-call whole-is small p-eq i-fits h-is x-is p-fits k-is =
         qed W (‵ (flft (ν₀ ∷ []) fullShare) ∷ ‵ (flft (ν₁ ∷ []) fullShare) ∷ ‵ (flft (ν₂ ∷ []) fullShare) ∷ ‵ (flft (ν₃ ∷ []) fullShare) ∷ ‵ (flft κ₁ q₁) ∷ ‵ (flft κ₂ q₂) ∷ ‵ (flft κ₃ q₃) ∷ ‵ (flft κ₄ q₄) ∷ ‵ (flft κ₅ q₅) ∷ ‵ (MutRef (named 0) (ν₀ ∷ []) (Array u8 512) .own owner (vptr b (o + pool-at + 0) ∷ [])) ∷ ‵ (MutRef (named 1) (ν₁ ∷ []) (Array u8 512) .own channel (vptr b (o + pool-at + channel-at) ∷ [])) ∷ ‵ (MutRef (named 2) (ν₂ ∷ []) (Array bool 512) .own charged (vptr b (o + pool-at + charged-at) ∷ [])) ∷ ‵ (MutRef (named 3) (ν₃ ∷ []) (Array u8 512) .own accounting (vptr b (o + pool-at + accounting-at) ∷ [])) ∷ ‵ (ShrRef (named 1) κ₁ (Array u8 4096) .own ids (ptr-vals ids)) ∷ ‵ (ShrRef (named 2) κ₂ (Array u32 2816) .own channels (ptr-vals channels)) ∷ ‵ (ShrRef (named 3) κ₃ (Array u32 1536) .own entries (ptr-vals entries)) ∷ ‵ (ShrSlice (named 4) κ₄ u8 .own s (slice-vals s)) ∷ ‵ (MutSlice (named 5) κ₅ u8 .own y (slice-vals y)) ∷ []) ∵
         says ! (whole-is, small, p-eq) $ nothing ! $ move ! (9 ∷ 0 ∷ []) $ join ! $ move ! (8 ∷ 0 ∷ []) $ join ! $ move ! (7 ∷ 0 ∷ []) $ join ! $ move ! (6 ∷ 0 ∷ []) $ join ! $ move ! (5 ∷ 0 ∷ []) $ join ! $ move ! (4 ∷ 0 ∷ []) $ join ! $ move ! (3 ∷ 0 ∷ []) $ join ! $ move ! (2 ∷ 0 ∷ []) $ join ! $ move ! (1 ∷ 0 ∷ []) $ join ! $ frame ! $
         nothing ! $ move ! (9 ∷ 0 ∷ []) $ fjoin ! $ move ! (8 ∷ 0 ∷ []) $ fjoin ! $
         owned ! K.the-row (Is K.the-row) (LL.makes K.the-type K′.the-plain 𝓤 H A) k _ k-is $ fjoin ! $ owned ! usize (Is usize) (uint-makes 𝓤 H A W w64) p _ (refl, p-fits) $ fjoin ! $
-        owned ! Tm.the-row (Is Tm.the-row) (LL.makes Tm.the-type Tm′.the-plain 𝓤 H A) (termsAt card i) _ t-is $ fjoin ! $
+        owned ! P.the-row (Is P.the-row) (LL.makes P.the-type P′.the-plain 𝓤 H A) (x i) _ x-is $ fjoin ! $ owned ! Hd.the-row (Is Hd.the-row) (LL.makes Hd.the-type Hd′.the-plain 𝓤 H A) (h .head) _ h-is $ fjoin ! $
+        owned ! usize (Is usize) (uint-makes 𝓤 H A W w64) i _ (refl, i-fits) $ fjoin ! $
         move ! (7 ∷ 0 ∷ []) $ fjoin ! $ move ! (6 ∷ 0 ∷ []) $ fjoin ! $ move ! (5 ∷ 0 ∷ []) $ fjoin ! $ move ! (4 ∷ 0 ∷ []) $ fjoin ! $ move ! (3 ∷ 0 ∷ []) $ fjoin ! $ move ! (2 ∷ 0 ∷ []) $ fjoin ! $ move ! (1 ∷ 0 ∷ []) $ fjoin ! $ done !
 
   module _ (C : Calls 𝓤 H) (Λ : Loops 𝓤 H) (fm : FmC 𝓤 H (W .laws) C) (finding : Triple 𝓤 (C port-def.name) (Finding 𝓤 H A at-mem run)) (slotting : Triple 𝓤 (C slot-def.name) (Slotting 𝓤 H A at-mem run)) (calling : Triple 𝓤 (C call-def.name) (Calling 𝓤 H A at-mem run)) (updating : Triple 𝓤 (C update-def.name) (Updating a-change changing 𝓤 H A W))
@@ -337,126 +339,124 @@ module _ {M : Type 1} (𝓤 : URA M) (H : Heap 𝓤) (A : Atoms 𝓤) (W : Given
         -- [reply; octets; entries; channels; ids; obs; borrow; κ₅; κ₄; κ₃; κ₂; κ₁; κ]
         move ! (5 ∷ 6 ∷ 12 ∷ 4 ∷ 3 ∷ 2 ∷ 1 ∷ 0 ∷ 11 ∷ 10 ∷ 9 ∷ 8 ∷ 7 ∷ []) $
         enter ! C Λ code.function passed _ $
-        alloc1 ! (λ l₀. alloc1 ! (λ l₁. alloc1 ! (λ l₂. alloc1 ! (λ l₃. alloc1 ! (λ l₄. alloc1 ! (λ l₅. alloc1 ! (λ l₆. alloc1 ! (λ l₇. alloc1 ! (λ l₈. alloc1 ! (λ l₉. alloc1 ! (λ l₁₀. alloc1 ! (λ l₁₁. alloc1 ! (λ l₁₂. alloc1 ! (λ l₁₃. alloc1 ! (λ l₁₄. alloc1 ! (λ l₁₅. alloc1 ! (λ l₁₆. alloc1 ! (λ l₁₇. alloc1 ! (λ l₁₈. alloc1 ! (λ l₁₉. alloc1 ! (λ l₂₀. alloc1 ! (λ l₂₁. alloc1 ! (λ l₂₂. alloc1 ! (λ l₂₃. alloc1 ! (λ l₂₄. alloc1 ! (λ l₂₅. alloc1 ! (λ l₂₆. alloc1 ! (λ l₂₇. alloc0 ! $ params1 ! $
-        -- [_27, …, _0; obs; borrow; κ; ids; channels; entries; octets; reply; κ₁; κ₂; κ₃; κ₄; κ₅]
-        pass1 ! (init ! 52 refl (tt, tt)) $ pass1 ! (init ! 50 refl (tt, tt)) $ pass1 ! (init ! 48 refl (tt, tt)) $ pass1 ! (init ! 46 refl (tt, tt)) $ pass1 ! (init ! 44 refl call-typed) $ pass1 ! (init ! 42 refl octets-typed) $ pass1 ! (init ! 40 refl reply-typed) $ pass0 ! $
-        move ! (56 ∷ 57 ∷ 58 ∷ []) $ opens ! tt T.the-row {h = h} b o (λ vs. spelt ! T.the-row (Is T.the-row) (shows 𝓤 H A T.the-row) (LL.vals T.the-type T′.the-laws) (LL.tells T.the-type T′.the-laws) fullShare h vs b o $
+        alloc1 ! (λ l₀. alloc1 ! (λ l₁. alloc1 ! (λ l₂. alloc1 ! (λ l₃. alloc1 ! (λ l₄. alloc1 ! (λ l₅. alloc1 ! (λ l₆. alloc1 ! (λ l₇. alloc1 ! (λ l₈. alloc1 ! (λ l₉. alloc1 ! (λ l₁₀. alloc1 ! (λ l₁₁. alloc1 ! (λ l₁₂. alloc1 ! (λ l₁₃. alloc1 ! (λ l₁₄. alloc1 ! (λ l₁₅. alloc1 ! (λ l₁₆. alloc1 ! (λ l₁₇. alloc1 ! (λ l₁₈. alloc1 ! (λ l₁₉. alloc1 ! (λ l₂₀. alloc1 ! (λ l₂₁. alloc1 ! (λ l₂₂. alloc1 ! (λ l₂₃. alloc1 ! (λ l₂₄. alloc1 ! (λ l₂₅. alloc1 ! (λ l₂₆. alloc0 ! $ params1 ! $
+        -- [_26, …, _0; obs; borrow; κ; ids; channels; entries; octets; reply; κ₁; κ₂; κ₃; κ₄; κ₅]
+        pass1 ! (init ! 50 refl (tt, tt)) $ pass1 ! (init ! 48 refl (tt, tt)) $ pass1 ! (init ! 46 refl (tt, tt)) $ pass1 ! (init ! 44 refl (tt, tt)) $ pass1 ! (init ! 42 refl call-typed) $ pass1 ! (init ! 40 refl octets-typed) $ pass1 ! (init ! 38 refl reply-typed) $ pass0 ! $
+        move ! (54 ∷ 55 ∷ 56 ∷ []) $ opens ! tt T.the-row {h = h} b o (λ vs. spelt ! T.the-row (Is T.the-row) (shows 𝓤 H A T.the-row) (LL.vals T.the-type T′.the-laws) (LL.tells T.the-type T′.the-laws) fullShare h vs b o $
         move ! (1 ∷ []) $ facts ! T.the-row (Is T.the-row) (shows 𝓤 H A T.the-row) h (LL.vals T.the-type T′.the-laws h) (λ was.
         let parts = LL.owed T.the-type T′.the-laws h _ was in
         let maps = LL.owed Q.the-type Q′.the-laws (h .pool) _ (parts .1 .0) in
-        let n-is = LL.owed Hd.the-type Hd′.the-laws (h .head) _ (parts .1 .1 .0) .1 .0 in
+        let n-is = LL.owed Hd.the-type Hd′.the-laws (h .head) _ (parts .1 .1 .0) .0 in
         apart 𝓤 H A W [] (types-of T.the-type) b o (values-of T.the-type T′.the-laws h) (
-        -- [head; pool; ports; the way back; the open borrow; obs; auth; _27, …, _0; ids; channels; entries; octets; reply; κ₁; κ₂; κ₃; κ₄; κ₅]
-        assigns ! (of-opd ! (load ! (from ! (hop ! (look ! 59 refl) (fld ! {d = head-at} refl (stop !)))) (look-raw ! 0 refl))) (from ! (stop !)) (init ! 45 refl (LL.lawful Hd.the-type Hd′.the-laws 𝓤 H A W .typed (h .head) _ (parts .1 .1 .0) .0)) $
+        -- [head; pool; ports; the way back; the open borrow; obs; auth; _26, …, _0; ids; channels; entries; octets; reply; κ₁; κ₂; κ₃; κ₄; κ₅]
+        assigns ! (of-opd ! (load ! (from ! (hop ! (look ! 57 refl) (fld ! {d = head-at} refl (stop !)))) (look-raw ! 0 refl))) (from ! (stop !)) (init ! 43 refl (LL.lawful Hd.the-type Hd′.the-laws 𝓤 H A W .typed (h .head) _ (parts .1 .1 .0) .0)) $
         -- the port that the call is about
-        move ! (63 ∷ []) $ use1 W (‵ (ShrRef (named 1) κ₁ (Array u8 4096) .own ids (ptr-vals ids)) ⊛ ‵ (ShrRef (named 1) κ₁ (Array u8 4096) .own ids (ptr-vals ids))) (shr-copy 𝓤 H A W (named 1) κ₁ (Array u8 4096) .twice ids (ptr-vals ids)) $ split ! $
-        -- [ids; ids again; head; pool; ports; the way back; the open borrow; obs; auth; _27, …, _0; channels; entries; octets; reply; κ₁; κ₂; κ₃; κ₄; κ₅]
-        move ! (67 ∷ []) $ use1 W (‵ (ShrSlice (named 4) κ₄ u8 .own s (slice-vals s)) ⊛ ‵ (ShrSlice (named 4) κ₄ u8 .own s (slice-vals s))) (shr-slice-copy 𝓤 H A W (named 4) κ₄ u8 .twice s (slice-vals s)) $ split ! $
-        -- [octets; octets again; ids; ids again; head; pool; ports; the way back; the open borrow; obs; auth; _27, …, _0; channels; entries; reply; κ₁; κ₂; κ₃; κ₄; κ₅]
-        move ! (70 ∷ 73 ∷ 2 ∷ 0 ∷ []) $ group ! 4 $ use1 W (raw (Finding 𝓤 H A at-mem run .pre to-port)) (goes-port k-is n-is) $
-        -- [what `port_of` takes; octets; ids; head; pool; ports; the way back; the open borrow; obs; auth; _27, …, _0; channels; entries; reply; κ₂; κ₃; κ₅]
-        calls-at ! fm (Finding 𝓤 H A at-mem run) finding to-port (and-then ! (load ! (from ! (stop !)) (look ! 60 refl)) (and-then ! (load ! (from ! (fld ! refl (stop !))) (look-in ! 48 (sub ! 1 refl (whole !)))) (and-then ! (load ! (from ! (stop !)) (look ! 54 refl)) (and-then ! (load ! (from ! (stop !)) (look ! 52 refl)) (no-more !))))) (λ w.
+        move ! (61 ∷ []) $ use1 W (‵ (ShrRef (named 1) κ₁ (Array u8 4096) .own ids (ptr-vals ids)) ⊛ ‵ (ShrRef (named 1) κ₁ (Array u8 4096) .own ids (ptr-vals ids))) (shr-copy 𝓤 H A W (named 1) κ₁ (Array u8 4096) .twice ids (ptr-vals ids)) $ split ! $
+        -- [ids; ids again; head; pool; ports; the way back; the open borrow; obs; auth; _26, …, _0; channels; entries; octets; reply; κ₁; κ₂; κ₃; κ₄; κ₅]
+        move ! (65 ∷ []) $ use1 W (‵ (ShrSlice (named 4) κ₄ u8 .own s (slice-vals s)) ⊛ ‵ (ShrSlice (named 4) κ₄ u8 .own s (slice-vals s))) (shr-slice-copy 𝓤 H A W (named 4) κ₄ u8 .twice s (slice-vals s)) $ split ! $
+        -- [octets; octets again; ids; ids again; head; pool; ports; the way back; the open borrow; obs; auth; _26, …, _0; channels; entries; reply; κ₁; κ₂; κ₃; κ₄; κ₅]
+        move ! (68 ∷ 71 ∷ 2 ∷ 0 ∷ []) $ group ! 4 $ use1 W (raw (Finding 𝓤 H A at-mem run .pre to-port)) (goes-port k-is n-is) $
+        -- [what `port_of` takes; octets; ids; head; pool; ports; the way back; the open borrow; obs; auth; _26, …, _0; channels; entries; reply; κ₂; κ₃; κ₅]
+        calls-at ! fm (Finding 𝓤 H A at-mem run) finding to-port (and-then ! (load ! (from ! (stop !)) (look ! 58 refl)) (and-then ! (load ! (from ! (fld ! refl (stop !))) (look-in ! 46 (sub ! 0 refl (whole !)))) (and-then ! (load ! (from ! (stop !)) (look ! 52 refl)) (and-then ! (load ! (from ! (stop !)) (look ! 50 refl)) (no-more !))))) (λ w.
         use1 W (later (some (λ (p : ℕ). ((‵ (flft κ₁ q₁) ⊛ (‵ (flft κ₄ q₄) ⊛ ‵ ftrue)) ⊛ ‵ (usize .own p (w ∷ []))) ⊛ raw (ensured 𝓤 H A port.ended (port.clauses 𝓤 H A at-mem run) (κ₁, (κ₄, tt)) (ids, (n, (k, (s, tt)))) tt p)))) (id⊢ 𝓤 _) $ await ! tt $ pick ! (λ p.
         split ! $ move ! (1 ∷ []) $ use1 W (some (λ (zs : Unit {0} × (Unit {0} × (Unit {0} × (Unit {0} × Unit {0})))). ‵ (lasts port.ended (κ₁, (κ₄, tt)) (ids, (n, (k, (s, tt)))) zs) ⊛ raw (fact 𝓤 (p ≡ S.portAbout (ids .now) n k (s .now))))) (id⊢ 𝓤 _) $ pick ! (λ _.
         split ! $ drop ! $ heard ! (p ≡ S.portAbout (ids .now) n k (s .now)) (λ p-eq. split ! $ move ! (1 ∷ []) $ facts ! usize (Is usize) (shows 𝓤 H A usize) p (w ∷ []) (λ p-is.
         split ! $ move ! (1 ∷ []) $ split ! $ move ! (1 ∷ []) $ drop ! $
-        -- [κ₄; κ₁; octets; ids; head; pool; ports; the way back; the open borrow; obs; auth; _27, …, _0; channels; entries; reply; κ₂; κ₃; κ₅]
-        land ! (from ! (stop !)) (init ! 47 refl (subst (λ (z : Val). Holds (hasTy (tyInt w64) z) × WT z) (sym (ap only (p-is .0))) (tt, record { fits = p-is .1 }))) $
-        rewrite ! 47 (λ (z : Val). ‵ (fat fullShare (tyInt w64) l₉ 0 z)) (ap only (p-is .0)) refl $
+        -- [κ₄; κ₁; octets; ids; head; pool; ports; the way back; the open borrow; obs; auth; _26, …, _0; channels; entries; reply; κ₂; κ₃; κ₅]
+        land ! (from ! (stop !)) (init ! 45 refl (subst (λ (z : Val). Holds (hasTy (tyInt w64) z) × WT z) (sym (ap only (p-is .0))) (tt, record { fits = p-is .1 }))) $
+        rewrite ! 45 (λ (z : Val). ‵ (fat fullShare (tyInt w64) l₉ 0 z)) (ap only (p-is .0)) refl $
         -- where its record lies
         owned ! usize (Is usize) (uint-makes 𝓤 H A W w64) p _ (refl, p-is .1) $ use1 W (raw (Slotting 𝓤 H A at-mem run .pre (to-slot p))) (goes-slot p) $
-        -- [what `slot` takes; κ₄; κ₁; octets; ids; head; pool; ports; the way back; the open borrow; obs; auth; _27, …, _0; channels; entries; reply; κ₂; κ₃; κ₅]
-        calls-at ! fm (Slotting 𝓤 H A at-mem run) slotting (to-slot p) (and-then ! (load ! (from ! (stop !)) (look ! 48 refl)) (no-more !)) (λ u.
+        -- [what `slot` takes; κ₄; κ₁; octets; ids; head; pool; ports; the way back; the open borrow; obs; auth; _26, …, _0; channels; entries; reply; κ₂; κ₃; κ₅]
+        calls-at ! fm (Slotting 𝓤 H A at-mem run) slotting (to-slot p) (and-then ! (load ! (from ! (stop !)) (look ! 46 refl)) (no-more !)) (λ u.
         use1 W (later (some (λ (i : ℕ). (‵ ftrue ⊛ ‵ (usize .own i (u ∷ []))) ⊛ raw (ensured 𝓤 H A slot.ended (slot.clauses 𝓤 H A at-mem run) tt (p, tt) tt i)))) (id⊢ 𝓤 _) $ await ! tt $ pick ! (λ i.
         split ! $ move ! (1 ∷ []) $ use1 W (some (λ (zs : Unit {0} × Unit {0}). ‵ (lasts slot.ended tt (p, tt) zs) ⊛ raw (fact 𝓤 ((i < 64) × (p < 64 → i ≡ p))))) (id⊢ 𝓤 _) $ pick ! (λ _.
         split ! $ drop ! $ heard ! ((i < 64) × (p < 64 → i ≡ p)) (λ at. split ! $ drop ! $ facts ! usize (Is usize) (shows 𝓤 H A usize) i (u ∷ []) (λ i-is.
-        -- [κ₄; κ₁; octets; ids; head; pool; ports; the way back; the open borrow; obs; auth; _27, …, _0; channels; entries; reply; κ₂; κ₃; κ₅]
-        land ! (from ! (stop !)) (init ! 45 refl (subst (λ (z : Val). Holds (hasTy (tyInt w64) z) × WT z) (sym (ap only (i-is .0))) (tt, record { fits = i-is .1 }))) $
-        rewrite ! 45 (λ (z : Val). ‵ (fat fullShare (tyInt w64) l₁₀ 0 z)) (ap only (i-is .0)) refl $
-        assigns ! (bin ! (load ! (from ! (stop !)) (look ! 45 refl)) (lit ! tt) (record { fits = scaled (at .0) })) (from ! (stop !)) (init ! 39 refl (tt, record { fits = scaled (at .0) })) $
-        assigns ! (addr ! (from ! (hop ! (look ! 63 refl) (fld ! {d = 0} refl (stop !))))) (from ! (stop !)) (init ! 37 refl (tt, tt)) $
-        assigns ! (bin ! (load ! (from ! (stop !)) (look ! 37 refl)) (load ! (from ! (stop !)) (look ! 39 refl)) tt) (from ! (stop !)) (init ! 35 refl (tt, tt)) $
+        -- [κ₄; κ₁; octets; ids; head; pool; ports; the way back; the open borrow; obs; auth; _26, …, _0; channels; entries; reply; κ₂; κ₃; κ₅]
+        land ! (from ! (stop !)) (init ! 43 refl (subst (λ (z : Val). Holds (hasTy (tyInt w64) z) × WT z) (sym (ap only (i-is .0))) (tt, record { fits = i-is .1 }))) $
+        rewrite ! 43 (λ (z : Val). ‵ (fat fullShare (tyInt w64) l₁₀ 0 z)) (ap only (i-is .0)) refl $
+        assigns ! (bin ! (load ! (from ! (stop !)) (look ! 43 refl)) (lit ! tt) (record { fits = scaled (at .0) })) (from ! (stop !)) (init ! 37 refl (tt, record { fits = scaled (at .0) })) $
+        assigns ! (addr ! (from ! (hop ! (look ! 61 refl) (fld ! {d = 0} refl (stop !))))) (from ! (stop !)) (init ! 35 refl (tt, tt)) $
+        assigns ! (bin ! (load ! (from ! (stop !)) (look ! 35 refl)) (load ! (from ! (stop !)) (look ! 37 refl)) tt) (from ! (stop !)) (init ! 33 refl (tt, tt)) $
         move ! (6 ∷ []) $ element 𝓤 H A W Row tt (struct-makes 𝓤 H A (shape P.the-type) P′.the-plain) row-vals (LL.tuple-tells P.the-type P′.the-laws) 64 b (o + 0) (rows-of (h .ports)) i row (parts .0) (at .0) (λ len row-is.
         let x-is = subst (λ (v : Row .Denot). Is Row v (row-vals v)) (List·getD-map (P.the-type .to) (h .ports) i freshPort) row-is in
         let x-typed = LL.lawful P.the-type P′.the-laws 𝓤 H A W .typed (x i) _ x-is .0 in
         rewrite ! 0 (λ (v : Row .Denot). ‵ (cellAt fullShare (Row .mir) (row-vals v) b (i * record-size + (o + 0)))) (List·getD-map (P.the-type .to) (h .ports) i freshPort) refl $
-        -- [the record; the others; κ₄; κ₁; octets; ids; head; pool; the way back; the open borrow; obs; auth; _27, …, _0; channels; entries; reply; κ₂; κ₃; κ₅]
-        assigns ! (of-opd ! (load ! (from ! (hop ! (look ! 36 refl) (stop !))) (look-raw ! 0 refl))) (from ! (stop !)) (init ! 34 refl x-typed) $
-        assigns ! (of-opd ! (load ! (from ! (stop !)) (look ! 34 refl))) (from ! (stop !)) (init ! 44 refl x-typed) $
-        -- the maps are lent, and the terms made
+        -- [the record; the others; κ₄; κ₁; octets; ids; head; pool; the way back; the open borrow; obs; auth; _26, …, _0; channels; entries; reply; κ₂; κ₃; κ₅]
+        assigns ! (of-opd ! (load ! (from ! (hop ! (look ! 34 refl) (stop !))) (look-raw ! 0 refl))) (from ! (stop !)) (init ! 32 refl x-typed) $
+        assigns ! (of-opd ! (load ! (from ! (stop !)) (look ! 32 refl))) (from ! (stop !)) (init ! 42 refl x-typed) $
+        -- the maps are lent
         move ! (7 ∷ []) $ apart 𝓤 H A W [] (types-of Q.the-type) b (o + pool-at) (values-of Q.the-type Q′.the-laws (h .pool)) (
-        -- [accounting; charged; channel; owner; the pool's way back; the record; the others; κ₄; κ₁; octets; ids; head; the way back; the open borrow; obs; auth; _27, …, _0; channels; entries; reply; κ₂; κ₃; κ₅]
-        assigns ! (addr ! (from ! (hop ! (look ! 68 refl) (fld ! {d = pool-at} refl (fld ! {d = 0} refl (stop !)))))) (from ! (stop !)) (init ! 36 refl (tt, tt)) $
-        assigns ! (addr ! (from ! (hop ! (look ! 68 refl) (fld ! {d = pool-at} refl (fld ! {d = channel-at} refl (stop !)))))) (from ! (stop !)) (init ! 34 refl (tt, tt)) $
-        assigns ! (addr ! (from ! (hop ! (look ! 68 refl) (fld ! {d = pool-at} refl (fld ! {d = charged-at} refl (stop !)))))) (from ! (stop !)) (init ! 32 refl (tt, tt)) $
-        assigns ! (addr ! (from ! (hop ! (look ! 68 refl) (fld ! {d = pool-at} refl (fld ! {d = accounting-at} refl (stop !)))))) (from ! (stop !)) (init ! 30 refl (tt, tt)) $
-        let t-is = LL.owes Tm.the-type Tm′.the-laws (termsAt card i) ((refl, i-is .1), (parts .1 .1 .0, (x-is, tt))) in
-        assigns ! (agg ! (and-then ! (load ! (from ! (stop !)) (look ! 50 refl)) (and-then ! (load ! (from ! (stop !)) (look ! 54 refl)) (and-then ! (load ! (from ! (stop !)) (look ! 48 refl)) (no-more !))))) (from ! (stop !)) (init ! 28 refl (LL.lawful Tm.the-type Tm′.the-laws 𝓤 H A W .typed (termsAt card i) _ t-is .0)) $
-        assigns ! (addr ! (from ! (fld ! refl (hop ! (look-in ! 56 (sub ! 0 refl (whole !))) (stop !))))) (from ! (stop !)) (init ! 26 refl (tt, tt)) $
-        assigns ! (agg ! (and-then ! (load ! (from ! (stop !)) (look ! 26 refl)) (and-then ! (load ! (from ! (fld ! refl (stop !))) (look-in ! 56 (sub ! 1 refl (whole !)))) (no-more !)))) (from ! (stop !)) (init ! 24 refl reply-typed) $
+        -- [accounting; charged; channel; owner; the pool's way back; the record; the others; κ₄; κ₁; octets; ids; head; the way back; the open borrow; obs; auth; _26, …, _0; channels; entries; reply; κ₂; κ₃; κ₅]
+        assigns ! (addr ! (from ! (hop ! (look ! 66 refl) (fld ! {d = pool-at} refl (fld ! {d = 0} refl (stop !)))))) (from ! (stop !)) (init ! 34 refl (tt, tt)) $
+        assigns ! (addr ! (from ! (hop ! (look ! 66 refl) (fld ! {d = pool-at} refl (fld ! {d = channel-at} refl (stop !)))))) (from ! (stop !)) (init ! 32 refl (tt, tt)) $
+        assigns ! (addr ! (from ! (hop ! (look ! 66 refl) (fld ! {d = pool-at} refl (fld ! {d = charged-at} refl (stop !)))))) (from ! (stop !)) (init ! 30 refl (tt, tt)) $
+        assigns ! (addr ! (from ! (hop ! (look ! 66 refl) (fld ! {d = pool-at} refl (fld ! {d = accounting-at} refl (stop !)))))) (from ! (stop !)) (init ! 28 refl (tt, tt)) $
+        assigns ! (addr ! (from ! (fld ! refl (hop ! (look-in ! 54 (sub ! 0 refl (whole !))) (stop !))))) (from ! (stop !)) (init ! 26 refl (tt, tt)) $
+        assigns ! (agg ! (and-then ! (load ! (from ! (stop !)) (look ! 26 refl)) (and-then ! (load ! (from ! (fld ! refl (stop !))) (look-in ! 54 (sub ! 1 refl (whole !)))) (no-more !)))) (from ! (stop !)) (init ! 24 refl reply-typed) $
         move ! (3 ∷ []) $ field-lent 𝓤 H A W u8 (uint-makes 𝓤 H A W w8) (uint-vals w8) (uint-tells w8) 512 b (o + pool-at + 0) tt (named 0) (h .pool .owner) (maps .0) (λ ν₀ δ₀.
-        -- [ν₀; lent owner; the lender of owner; accounting; charged; channel; the pool's way back; the record; the others; κ₄; κ₁; octets; ids; head; the way back; the open borrow; obs; auth; _27, …, _0; channels; entries; reply; κ₂; κ₃; κ₅]
+        -- [ν₀; lent owner; the lender of owner; accounting; charged; channel; the pool's way back; the record; the others; κ₄; κ₁; octets; ids; head; the way back; the open borrow; obs; auth; _26, …, _0; channels; entries; reply; κ₂; κ₃; κ₅]
         move ! (5 ∷ []) $ field-lent 𝓤 H A W u8 (uint-makes 𝓤 H A W w8) (uint-vals w8) (uint-tells w8) 512 b (o + pool-at + channel-at) tt (named 1) (h .pool .channel) (maps .1 .0) (λ ν₁ δ₁.
-        -- [ν₁; lent channel; the lender of channel; ν₀; lent owner; the lender of owner; accounting; charged; the pool's way back; the record; the others; κ₄; κ₁; octets; ids; head; the way back; the open borrow; obs; auth; _27, …, _0; channels; entries; reply; κ₂; κ₃; κ₅]
+        -- [ν₁; lent channel; the lender of channel; ν₀; lent owner; the lender of owner; accounting; charged; the pool's way back; the record; the others; κ₄; κ₁; octets; ids; head; the way back; the open borrow; obs; auth; _26, …, _0; channels; entries; reply; κ₂; κ₃; κ₅]
         move ! (7 ∷ []) $ field-lent 𝓤 H A W bool (bool-makes 𝓤 H A W) bool-vals bool-tells 512 b (o + pool-at + charged-at) tt (named 2) (h .pool .charged) (maps .1 .1 .0) (λ ν₂ δ₂.
-        -- [ν₂; lent charged; the lender of charged; ν₁; lent channel; the lender of channel; ν₀; lent owner; the lender of owner; accounting; the pool's way back; the record; the others; κ₄; κ₁; octets; ids; head; the way back; the open borrow; obs; auth; _27, …, _0; channels; entries; reply; κ₂; κ₃; κ₅]
+        -- [ν₂; lent charged; the lender of charged; ν₁; lent channel; the lender of channel; ν₀; lent owner; the lender of owner; accounting; the pool's way back; the record; the others; κ₄; κ₁; octets; ids; head; the way back; the open borrow; obs; auth; _26, …, _0; channels; entries; reply; κ₂; κ₃; κ₅]
         move ! (9 ∷ []) $ field-lent 𝓤 H A W u8 (uint-makes 𝓤 H A W w8) (uint-vals w8) (uint-tells w8) 512 b (o + pool-at + accounting-at) tt (named 3) (h .pool .accounting) (maps .1 .1 .1 .0) (λ ν₃ δ₃.
-        -- [ν₃; lent accounting; the lender of accounting; ν₂; lent charged; the lender of charged; ν₁; lent channel; the lender of channel; ν₀; lent owner; the lender of owner; the pool's way back; the record; the others; κ₄; κ₁; octets; ids; head; the way back; the open borrow; obs; auth; _27, …, _0; channels; entries; reply; κ₂; κ₃; κ₅]
+        -- [ν₃; lent accounting; the lender of accounting; ν₂; lent charged; the lender of charged; ν₁; lent channel; the lender of channel; ν₀; lent owner; the lender of owner; the pool's way back; the record; the others; κ₄; κ₁; octets; ids; head; the way back; the open borrow; obs; auth; _26, …, _0; channels; entries; reply; κ₂; κ₃; κ₅]
         let whole-is : Whole (h .pool) = record { owner = bare 𝓤 H A W u8 (uint-makes 𝓤 H A W w8) (uint-vals w8) (uint-tells w8) 512 (h .pool .owner) (maps .0) .1 .0 .1; channel = bare 𝓤 H A W u8 (uint-makes 𝓤 H A W w8) (uint-vals w8) (uint-tells w8) 512 (h .pool .channel) (maps .1 .0) .1 .0 .1; charged = bare 𝓤 H A W bool (bool-makes 𝓤 H A W) bool-vals bool-tells 512 (h .pool .charged) (maps .1 .1 .0) .1 .0 .1; accounting = bare 𝓤 H A W u8 (uint-makes 𝓤 H A W w8) (uint-vals w8) (uint-tells w8) 512 (h .pool .accounting) (maps .1 .1 .1 .0) .1 .0 .1; } in
-        move ! (9 ∷ 6 ∷ 3 ∷ 0 ∷ 16 ∷ 83 ∷ 84 ∷ 15 ∷ 85 ∷ 10 ∷ 7 ∷ 4 ∷ 1 ∷ 18 ∷ 80 ∷ 81 ∷ 17 ∷ 82 ∷ []) $ group ! 18 $ use1 W (raw (Calling 𝓤 H A at-mem run .pre (to-call ν₀ ν₁ ν₂ ν₃ δ₀ δ₁ δ₂ δ₃ i p))) (goes-call ν₀ ν₁ ν₂ ν₃ δ₀ δ₁ δ₂ δ₃ i p whole-is (at .0) p-eq t-is (p-is .1) k-is) $
-        -- [what `call_in` takes; the lender of accounting; the lender of charged; the lender of channel; the lender of owner; the pool's way back; the record; the others; head; the way back; the open borrow; obs; auth; _27, …, _0]
-        calls-at ! fm (Calling 𝓤 H A at-mem run) calling (to-call ν₀ ν₁ ν₂ ν₃ δ₀ δ₁ δ₂ δ₃ i p) (and-then ! (load ! (from ! (stop !)) (look ! 33 refl)) (and-then ! (load ! (from ! (stop !)) (look ! 31 refl)) (and-then ! (load ! (from ! (stop !)) (look ! 29 refl)) (and-then ! (load ! (from ! (stop !)) (look ! 27 refl)) (and-then ! (load ! (from ! (stop !)) (look ! 63 refl)) (and-then ! (load ! (from ! (stop !)) (look ! 61 refl)) (and-then ! (load ! (from ! (stop !)) (look ! 59 refl)) (and-then ! (load ! (from ! (stop !)) (look ! 25 refl)) (and-then ! (load ! (from ! (stop !)) (look ! 49 refl)) (and-then ! (load ! (from ! (stop !)) (look ! 57 refl)) (and-then ! (load ! (from ! (stop !)) (look ! 55 refl)) (and-then ! (load ! (from ! (stop !)) (look ! 21 refl)) (no-more !))))))))))))) (λ v.
+        move ! (9 ∷ 6 ∷ 3 ∷ 0 ∷ 16 ∷ 81 ∷ 82 ∷ 15 ∷ 83 ∷ 10 ∷ 7 ∷ 4 ∷ 1 ∷ 18 ∷ 78 ∷ 79 ∷ 17 ∷ 80 ∷ []) $ group ! 18 $ use1 W (raw (Calling 𝓤 H A at-mem run .pre (to-call ν₀ ν₁ ν₂ ν₃ δ₀ δ₁ δ₂ δ₃ i p))) (goes-call ν₀ ν₁ ν₂ ν₃ δ₀ δ₁ δ₂ δ₃ i p whole-is (at .0) p-eq (i-is .1) (parts .1 .1 .0) x-is (p-is .1) k-is) $
+        -- [what `call_in` takes; the lender of accounting; the lender of charged; the lender of channel; the lender of owner; the pool's way back; the record; the others; head; the way back; the open borrow; obs; auth; _26, …, _0]
+        calls-at ! fm (Calling 𝓤 H A at-mem run) calling (to-call ν₀ ν₁ ν₂ ν₃ δ₀ δ₁ δ₂ δ₃ i p) (and-then ! (load ! (from ! (stop !)) (look ! 31 refl)) (and-then ! (load ! (from ! (stop !)) (look ! 29 refl)) (and-then ! (load ! (from ! (stop !)) (look ! 27 refl)) (and-then ! (load ! (from ! (stop !)) (look ! 25 refl)) (and-then ! (load ! (from ! (stop !)) (look ! 61 refl)) (and-then ! (load ! (from ! (stop !)) (look ! 59 refl)) (and-then ! (load ! (from ! (stop !)) (look ! 57 refl)) (and-then ! (load ! (from ! (stop !)) (look ! 45 refl)) (and-then ! (load ! (from ! (stop !)) (look ! 49 refl)) (and-then ! (load ! (from ! (stop !)) (look ! 43 refl)) (and-then ! (load ! (from ! (stop !)) (look ! 47 refl)) (and-then ! (load ! (from ! (stop !)) (look ! 55 refl)) (and-then ! (load ! (from ! (stop !)) (look ! 53 refl)) (and-then ! (load ! (from ! (stop !)) (look ! 21 refl)) (no-more !))))))))))))))) (λ v.
         use1 W (later (some (λ (r : Effect). ((‵ (flft (ν₀ ∷ []) fullShare) ⊛ (‵ (flft (ν₁ ∷ []) fullShare) ⊛ (‵ (flft (ν₂ ∷ []) fullShare) ⊛ (‵ (flft (ν₃ ∷ []) fullShare) ⊛ raw (toks 𝓤 A 5 κs qs))))) ⊛ ‵ (Ef.the-row .own r (v ∷ []))) ⊛ raw (ensured 𝓤 H A call.ended (call.clauses 𝓤 H A at-mem run) (lfts ν₀ ν₁ ν₂ ν₃ δ₀ δ₁ δ₂ δ₃ i p) (given ν₀ ν₁ ν₂ ν₃ δ₀ δ₁ δ₂ δ₃ i p) tt r)))) (id⊢ 𝓤 _) $ await ! tt $ pick ! (λ r.
         split ! $ move ! (1 ∷ []) $ use1 W (some (λ (zs : Lasts). ‵ (lasts call.ended (lfts ν₀ ν₁ ν₂ ν₃ δ₀ δ₁ δ₂ δ₃ i p) (given ν₀ ν₁ ν₂ ν₃ δ₀ δ₁ δ₂ δ₃ i p) zs) ⊛ raw (fact 𝓤 (Came i p r zs)))) (id⊢ 𝓤 _) $ pick ! (λ zs.
-        split ! $ move ! (1 ∷ []) $ heard ! (Came i p r zs) (λ e. fsplit ! $ move ! (1 ∷ []) $ fsplit ! $ move ! (1 ∷ []) $ fsplit ! $ move ! (1 ∷ []) $ fsplit ! $ move ! (1 ∷ []) $ fsplit ! $ drop ! $ fsplit ! $ drop ! $ fsplit ! $ drop ! $ fsplit ! $ drop ! $ fsplit ! $ drop ! $ fsplit ! $ drop ! $ fsplit ! $ drop ! $ fsplit ! $ fsplit ! $ move ! (1 ∷ 2 ∷ []) $ feqL ! (λ l. drop ! $
-        -- [the last octets of the reply; the last accounting; the last charged; the last channel; the last owner; the tokens and what it gave; the lender of accounting; the lender of charged; the lender of channel; the lender of owner; the pool's way back; the record; the others; head; the way back; the open borrow; obs; auth; _27, …, _0]
+        split ! $ move ! (1 ∷ []) $ heard ! (Came i p r zs) (λ e. fsplit ! $ move ! (1 ∷ []) $ fsplit ! $ move ! (1 ∷ []) $ fsplit ! $ move ! (1 ∷ []) $ fsplit ! $ move ! (1 ∷ []) $ fsplit ! $ drop ! $ fsplit ! $ drop ! $ fsplit ! $ drop ! $ fsplit ! $ drop ! $ fsplit ! $ drop ! $ fsplit ! $ drop ! $ fsplit ! $ drop ! $ fsplit ! $ drop ! $ fsplit ! $ drop ! $ fsplit ! $ fsplit ! $ move ! (1 ∷ 2 ∷ []) $ feqL ! (λ l. drop ! $
+        -- [the last octets of the reply; the last accounting; the last charged; the last channel; the last owner; the tokens and what it gave; the lender of accounting; the lender of charged; the lender of channel; the lender of owner; the pool's way back; the record; the others; head; the way back; the open borrow; obs; auth; _26, …, _0]
         move ! (5 ∷ []) $ split ! $ move ! (1 ∷ []) $ facts ! Ef.the-row (Is Ef.the-row) (shows 𝓤 H A Ef.the-row) r (v ∷ []) (λ r-is.
-        -- [the tokens; the last octets of the reply; the last accounting; the last charged; the last channel; the last owner; the lender of accounting; the lender of charged; the lender of channel; the lender of owner; the pool's way back; the record; the others; head; the way back; the open borrow; obs; auth; _27, …, _0]
-        land ! (from ! (stop !)) (init ! 48 refl (LL.lawful Ef.the-type Ef′.the-laws 𝓤 H A W .typed r _ r-is .0)) $
-        rewrite ! 48 (λ (z : Val). ‵ (fat fullShare Ef′.mir l₁₂ 0 z)) (ap only (LL.tells Ef.the-type Ef′.the-laws r (v ∷ []) r-is)) refl $
+        -- [the tokens; the last octets of the reply; the last accounting; the last charged; the last channel; the last owner; the lender of accounting; the lender of charged; the lender of channel; the lender of owner; the pool's way back; the record; the others; head; the way back; the open borrow; obs; auth; _26, …, _0]
+        land ! (from ! (stop !)) (init ! 46 refl (LL.lawful Ef.the-type Ef′.the-laws 𝓤 H A W .typed r _ r-is .0)) $
+        rewrite ! 46 (λ (z : Val). ‵ (fat fullShare Ef′.mir l₁₂ 0 z)) (ap only (LL.tells Ef.the-type Ef′.the-laws r (v ∷ []) r-is)) refl $
         let gave = LL.owed Ef.the-type Ef′.the-laws r (v ∷ []) r-is in
         let made-is = LL.owes R.the-type R′.the-laws (made r) (gave .0, (gave .1 .0, tt)) in
         split ! $ move ! (1 ∷ []) $ split ! $ move ! (1 ∷ []) $ split ! $ move ! (1 ∷ []) $ split ! $
-        -- [ν₃; κ₁ to κ₅; ν₂; ν₁; ν₀; the last octets of the reply; the last accounting; the last charged; the last channel; the last owner; the lender of accounting; the lender of charged; the lender of channel; the lender of owner; the pool's way back; the record; the others; head; the way back; the open borrow; obs; auth; _27, …, _0]
+        -- [ν₃; κ₁ to κ₅; ν₂; ν₁; ν₀; the last octets of the reply; the last accounting; the last charged; the last channel; the last owner; the lender of accounting; the lender of charged; the lender of channel; the lender of owner; the pool's way back; the record; the others; head; the way back; the open borrow; obs; auth; _26, …, _0]
         move ! (0 ∷ 6 ∷ 10 ∷ []) $ field-returned 𝓤 H A W u8 (uint-makes 𝓤 H A W w8) (uint-vals w8) (uint-tells w8) 512 b (o + pool-at + accounting-at) tt ν₃ δ₃ (zs .1 .1 .1 .0) (λ accounting-is.
-        -- [accounting; κ₁ to κ₅; ν₂; ν₁; ν₀; the last octets of the reply; the last charged; the last channel; the last owner; the lender of charged; the lender of channel; the lender of owner; the pool's way back; the record; the others; head; the way back; the open borrow; obs; auth; _27, …, _0]
+        -- [accounting; κ₁ to κ₅; ν₂; ν₁; ν₀; the last octets of the reply; the last charged; the last channel; the last owner; the lender of charged; the lender of channel; the lender of owner; the pool's way back; the record; the others; head; the way back; the open borrow; obs; auth; _26, …, _0]
         move ! (2 ∷ 6 ∷ 9 ∷ []) $ field-returned 𝓤 H A W bool (bool-makes 𝓤 H A W) bool-vals bool-tells 512 b (o + pool-at + charged-at) tt ν₂ δ₂ (zs .1 .1 .0) (λ charged-is.
-        -- [charged; accounting; κ₁ to κ₅; ν₁; ν₀; the last octets of the reply; the last channel; the last owner; the lender of channel; the lender of owner; the pool's way back; the record; the others; head; the way back; the open borrow; obs; auth; _27, …, _0]
+        -- [charged; accounting; κ₁ to κ₅; ν₁; ν₀; the last octets of the reply; the last channel; the last owner; the lender of channel; the lender of owner; the pool's way back; the record; the others; head; the way back; the open borrow; obs; auth; _26, …, _0]
         move ! (3 ∷ 6 ∷ 8 ∷ []) $ field-returned 𝓤 H A W u8 (uint-makes 𝓤 H A W w8) (uint-vals w8) (uint-tells w8) 512 b (o + pool-at + channel-at) tt ν₁ δ₁ (zs .1 .0) (λ channel-is.
-        -- [channel; charged; accounting; κ₁ to κ₅; ν₀; the last octets of the reply; the last owner; the lender of owner; the pool's way back; the record; the others; head; the way back; the open borrow; obs; auth; _27, …, _0]
+        -- [channel; charged; accounting; κ₁ to κ₅; ν₀; the last octets of the reply; the last owner; the lender of owner; the pool's way back; the record; the others; head; the way back; the open borrow; obs; auth; _26, …, _0]
         move ! (4 ∷ 6 ∷ 7 ∷ []) $ field-returned 𝓤 H A W u8 (uint-makes 𝓤 H A W w8) (uint-vals w8) (uint-tells w8) 512 b (o + pool-at + 0) tt ν₀ δ₀ (zs .0) (λ owner-is.
-        -- [owner; channel; charged; accounting; κ₁ to κ₅; the last octets of the reply; the pool's way back; the record; the others; head; the way back; the open borrow; obs; auth; _27, …, _0]
+        -- [owner; channel; charged; accounting; κ₁ to κ₅; the last octets of the reply; the pool's way back; the record; the others; head; the way back; the open borrow; obs; auth; _26, …, _0]
         move ! (3 ∷ 2 ∷ 1 ∷ 0 ∷ 6 ∷ []) $ together 𝓤 H A W [] (types-of Q.the-type) b (o + pool-at) (values-of Q.the-type Q′.the-laws (pool-of zs)) (
         -- the record is updated
-        -- [pool; κ₁ to κ₅; the last octets of the reply; the record; the others; head; the way back; the open borrow; obs; auth; _27, …, _0]
-        assigns ! (bin ! (load ! (from ! (stop !)) (look ! 44 refl)) (lit ! tt) (record { fits = scaled (at .0) })) (from ! (stop !)) (store ! 38 refl (tt, record { fits = scaled (at .0) })) $
-        assigns ! (addr ! (from ! (hop ! (look ! 62 refl) (fld ! {d = 0} refl (stop !))))) (from ! (stop !)) (init ! 14 refl (tt, tt)) $
-        assigns ! (bin ! (load ! (from ! (stop !)) (look ! 14 refl)) (load ! (from ! (stop !)) (look ! 38 refl)) tt) (from ! (stop !)) (init ! 12 refl (tt, tt)) $
+        -- [pool; κ₁ to κ₅; the last octets of the reply; the record; the others; head; the way back; the open borrow; obs; auth; _26, …, _0]
+        assigns ! (bin ! (load ! (from ! (stop !)) (look ! 42 refl)) (lit ! tt) (record { fits = scaled (at .0) })) (from ! (stop !)) (store ! 36 refl (tt, record { fits = scaled (at .0) })) $
+        assigns ! (addr ! (from ! (hop ! (look ! 60 refl) (fld ! {d = 0} refl (stop !))))) (from ! (stop !)) (init ! 14 refl (tt, tt)) $
+        assigns ! (bin ! (load ! (from ! (stop !)) (look ! 14 refl)) (load ! (from ! (stop !)) (look ! 36 refl)) tt) (from ! (stop !)) (init ! 12 refl (tt, tt)) $
         assigns ! (addr ! (from ! (hop ! (look ! 12 refl) (stop !)))) (from ! (stop !)) (init ! 10 refl (tt, tt)) $
         move ! (3 ∷ []) $ lent 𝓤 H A W P.the-row (LL.makes P.the-type P′.the-plain 𝓤 H A) (LL.vals P.the-type P′.the-laws) (LL.tells P.the-type P′.the-laws) b (i * record-size + (o + 0)) tt (named 0) (x i) x-is (λ ν δ.
         move ! (1 ∷ []) $ fsplit3 ! $ drop ! $ hands-on a-change changing 𝓤 H A W (ν ∷ []) fullShare b (i * record-size + (o + 0)) δ (x i) (r .change, tt) fm updating (EL.makes Ch.the-type Ch′.the-plain 𝓤 H A, tt) (gave .1 .1 .1 .0, tt)
-        -- [what `update` takes; its lender; pool; κ₁ to κ₅; the last octets of the reply; the others; head; the way back; the open borrow; obs; auth; _27, …, _0]
-        (and-then ! (load ! (from ! (stop !)) (look ! 11 refl)) (and-then ! (load ! (from ! (fld ! refl (stop !))) (look-in ! 41 (sub ! 3 refl (whole !)))) (no-more !))) (
-        -- [the record's last value; ν; its lender; pool; κ₁ to κ₅; the last octets of the reply; the others; head; the way back; the open borrow; obs; auth; _27, …, _0]
+        -- [what `update` takes; its lender; pool; κ₁ to κ₅; the last octets of the reply; the others; head; the way back; the open borrow; obs; auth; _26, …, _0]
+        (and-then ! (load ! (from ! (stop !)) (look ! 11 refl)) (and-then ! (load ! (from ! (fld ! refl (stop !))) (look-in ! 39 (sub ! 3 refl (whole !)))) (no-more !))) (
+        -- [the record's last value; ν; its lender; pool; κ₁ to κ₅; the last octets of the reply; the others; head; the way back; the open borrow; obs; auth; _26, …, _0]
         land ! (from ! (stop !)) (init ! 18 refl (tt, tt)) $
         move ! (1 ∷ 0 ∷ 2 ∷ []) $ returned 𝓤 H A W P.the-row (LL.makes P.the-type P′.the-plain 𝓤 H A) (LL.vals P.the-type P′.the-laws) (LL.tells P.the-type P′.the-laws) b (i * record-size + (o + 0)) tt ν δ (changedBy (r .change) (x i)) (λ z-is.
-        -- [the record; pool; κ₁ to κ₅; the last octets of the reply; the others; head; the way back; the open borrow; obs; auth; _27, …, _0]
-        assigns ! (of-opd ! (load ! (from ! (fld ! refl (stop !))) (look-in ! 40 (sub ! 2 refl (whole !))))) (from ! (hop ! (look ! 62 refl) (fld ! {d = head-at} refl (stop !)))) (store-raw ! 5 refl (LL.lawful Hd.the-type Hd′.the-laws 𝓤 H A W .typed (r .head) _ (gave .1 .1 .0) .0)) $
-        assigns ! (agg ! (and-then ! (load ! (from ! (fld ! refl (stop !))) (look-in ! 40 (sub ! 0 refl (whole !)))) (and-then ! (load ! (from ! (fld ! refl (stop !))) (look-in ! 40 (sub ! 1 refl (whole !)))) (no-more !)))) (from ! (stop !)) (init ! 64 refl (LL.lawful R.the-type R′.the-laws 𝓤 H A W .typed (made r) _ made-is .0)) $
+        -- [the record; pool; κ₁ to κ₅; the last octets of the reply; the others; head; the way back; the open borrow; obs; auth; _26, …, _0]
+        assigns ! (of-opd ! (load ! (from ! (fld ! refl (stop !))) (look-in ! 38 (sub ! 2 refl (whole !))))) (from ! (hop ! (look ! 60 refl) (fld ! {d = head-at} refl (stop !)))) (store-raw ! 5 refl (LL.lawful Hd.the-type Hd′.the-laws 𝓤 H A W .typed (r .head) _ (gave .1 .1 .0) .0)) $
+        assigns ! (agg ! (and-then ! (load ! (from ! (fld ! refl (stop !))) (look-in ! 38 (sub ! 0 refl (whole !)))) (and-then ! (load ! (from ! (fld ! refl (stop !))) (look-in ! 38 (sub ! 1 refl (whole !)))) (no-more !)))) (from ! (stop !)) (init ! 62 refl (LL.lawful R.the-type R′.the-laws 𝓤 H A W .typed (made r) _ made-is .0)) $
         move ! (0 ∷ 4 ∷ []) $ inside 𝓤 H A W Row tt (struct-makes 𝓤 H A (shape P.the-type) P′.the-plain) row-vals (LL.tuple-tells P.the-type P′.the-laws) 64 b (o + 0) (rows-of (h .ports)) i row len (at .0) (P.the-type .to (changedBy (r .change) (x i))) z-is (λ set-is.
         let ports-is = subst (λ (vs : List (Row .Denot)). Is (Array Row 64) vs (array-vals row-vals vs)) (rows-set (h .ports) i (changedBy (r .change) (x i))) set-is in
         rewrite ! 0 (λ (vs : List (Row .Denot)). ‵ (cellAt fullShare (Array Row 64 .mir) (array-vals row-vals vs) b (o + 0))) (rows-set (h .ports) i (changedBy (r .change) (x i))) refl $
-        -- [ports; pool; κ₁ to κ₅; the last octets of the reply; head; the way back; the open borrow; obs; auth; _27, …, _0]
+        -- [ports; pool; κ₁ to κ₅; the last octets of the reply; head; the way back; the open borrow; obs; auth; _26, …, _0]
         move ! (4 ∷ 1 ∷ 0 ∷ 5 ∷ []) $ together 𝓤 H A W [] (types-of T.the-type) b o (values-of T.the-type T′.the-laws (changed i r zs)) (
         let pool-is = LL.owes Q.the-type Q′.the-laws (pool-of zs) (owner-is, (channel-is, (charged-is, (accounting-is, tt)))) in
         let core-is = LL.owes T.the-type T′.the-laws (changed i r zs) (ports-is, (pool-is, (gave .1 .1 .0, tt))) in
         owned ! T.the-row (Is T.the-row) (LL.makes T.the-type T′.the-plain 𝓤 H A) (changed i r zs) _ core-is $
-        -- [what it owns; the core; κ₁ to κ₅; the last octets of the reply; the open borrow; obs; auth; _27, …, _0]
+        -- [what it owns; the core; κ₁ to κ₅; the last octets of the reply; the open borrow; obs; auth; _26, …, _0]
         move ! (1 ∷ 0 ∷ 4 ∷ 5 ∷ 6 ∷ []) $ closes ! tt T.the-row (changed i r zs) (LL.vals T.the-type T′.the-laws (changed i r zs)) b o $
-        -- [obs; the borrow; its token; κ₁ to κ₅; the last octets of the reply; _27, …, _0]
-        returns ! (look ! 59 refl) $ forget ! 5 refl $ forget ! 7 refl $ forget ! 9 refl $ forget ! 11 refl $ forget ! 13 refl $ forget ! 15 refl $ forget ! 17 refl $ forget ! 19 refl $ forget ! 21 refl $ forget ! 23 refl $ forget ! 25 refl $ forget ! 27 refl $ forget ! 29 refl $ forget ! 31 refl $ forget ! 33 refl $ forget ! 35 refl $ forget ! 37 refl $ forget ! 39 refl $ forget ! 41 refl $ forget ! 43 refl $ forget ! 45 refl $ forget ! 47 refl $ forget ! 49 refl $ forget ! 51 refl $ forget ! 53 refl $ forget ! 55 refl $ forget ! 57 refl $ forget ! 59 refl $
-        move ! (59 ∷ 60 ∷ []) $ free1 ! $ move ! (57 ∷ 58 ∷ []) $ free1 ! $ move ! (55 ∷ 56 ∷ []) $ free1 ! $ move ! (53 ∷ 54 ∷ []) $ free1 ! $ move ! (51 ∷ 52 ∷ []) $ free1 ! $ move ! (49 ∷ 50 ∷ []) $ free1 ! $ move ! (47 ∷ 48 ∷ []) $ free1 ! $ move ! (45 ∷ 46 ∷ []) $ free1 ! $ move ! (43 ∷ 44 ∷ []) $ free1 ! $ move ! (41 ∷ 42 ∷ []) $ free1 ! $ move ! (39 ∷ 40 ∷ []) $ free1 ! $ move ! (37 ∷ 38 ∷ []) $ free1 ! $ move ! (35 ∷ 36 ∷ []) $ free1 ! $ move ! (33 ∷ 34 ∷ []) $ free1 ! $ move ! (31 ∷ 32 ∷ []) $ free1 ! $ move ! (29 ∷ 30 ∷ []) $ free1 ! $ move ! (27 ∷ 28 ∷ []) $ free1 ! $ move ! (25 ∷ 26 ∷ []) $ free1 ! $ move ! (23 ∷ 24 ∷ []) $ free1 ! $ move ! (21 ∷ 22 ∷ []) $ free1 ! $ move ! (19 ∷ 20 ∷ []) $ free1 ! $ move ! (17 ∷ 18 ∷ []) $ free1 ! $ move ! (15 ∷ 16 ∷ []) $ free1 ! $ move ! (13 ∷ 14 ∷ []) $ free1 ! $ move ! (11 ∷ 12 ∷ []) $ free1 ! $ move ! (9 ∷ 10 ∷ []) $ free1 ! $ move ! (7 ∷ 8 ∷ []) $ free1 ! $ move ! (5 ∷ 6 ∷ []) $ free1 ! $ free0 ! $
-        by ! (exits i r zs made-is (answers i p r zs (at .1) e) l))))))))))))))))))))))))))))))))))))))))))))))))))))))))))))))))
+        -- [obs; the borrow; its token; κ₁ to κ₅; the last octets of the reply; _26, …, _0]
+        returns ! (look ! 57 refl) $ forget ! 5 refl $ forget ! 7 refl $ forget ! 9 refl $ forget ! 11 refl $ forget ! 13 refl $ forget ! 15 refl $ forget ! 17 refl $ forget ! 19 refl $ forget ! 21 refl $ forget ! 23 refl $ forget ! 25 refl $ forget ! 27 refl $ forget ! 29 refl $ forget ! 31 refl $ forget ! 33 refl $ forget ! 35 refl $ forget ! 37 refl $ forget ! 39 refl $ forget ! 41 refl $ forget ! 43 refl $ forget ! 45 refl $ forget ! 47 refl $ forget ! 49 refl $ forget ! 51 refl $ forget ! 53 refl $ forget ! 55 refl $ forget ! 57 refl $
+        move ! (57 ∷ 58 ∷ []) $ free1 ! $ move ! (55 ∷ 56 ∷ []) $ free1 ! $ move ! (53 ∷ 54 ∷ []) $ free1 ! $ move ! (51 ∷ 52 ∷ []) $ free1 ! $ move ! (49 ∷ 50 ∷ []) $ free1 ! $ move ! (47 ∷ 48 ∷ []) $ free1 ! $ move ! (45 ∷ 46 ∷ []) $ free1 ! $ move ! (43 ∷ 44 ∷ []) $ free1 ! $ move ! (41 ∷ 42 ∷ []) $ free1 ! $ move ! (39 ∷ 40 ∷ []) $ free1 ! $ move ! (37 ∷ 38 ∷ []) $ free1 ! $ move ! (35 ∷ 36 ∷ []) $ free1 ! $ move ! (33 ∷ 34 ∷ []) $ free1 ! $ move ! (31 ∷ 32 ∷ []) $ free1 ! $ move ! (29 ∷ 30 ∷ []) $ free1 ! $ move ! (27 ∷ 28 ∷ []) $ free1 ! $ move ! (25 ∷ 26 ∷ []) $ free1 ! $ move ! (23 ∷ 24 ∷ []) $ free1 ! $ move ! (21 ∷ 22 ∷ []) $ free1 ! $ move ! (19 ∷ 20 ∷ []) $ free1 ! $ move ! (17 ∷ 18 ∷ []) $ free1 ! $ move ! (15 ∷ 16 ∷ []) $ free1 ! $ move ! (13 ∷ 14 ∷ []) $ free1 ! $ move ! (11 ∷ 12 ∷ []) $ free1 ! $ move ! (9 ∷ 10 ∷ []) $ free1 ! $ move ! (7 ∷ 8 ∷ []) $ free1 ! $ move ! (5 ∷ 6 ∷ []) $ free1 ! $ free0 ! $
+        by ! (exits i r zs made-is (answers i p r zs (at .1) e) l)))))))))))))))))))))))))))))))))))))))))))))))))))))))))))))))
 
 module _ {M : Type 1} (𝓤 : URA M) (H : Heap 𝓤) (A : Atoms 𝓤) (W : Given 𝓤 H A) (at-mem : Memory → SProp 𝓤) (run : Routine → Fun 𝓤) where
   walks : (C : Calls 𝓤 H) (Λ : Loops 𝓤 H) → FmC 𝓤 H (W .laws) C → Triple 𝓤 (C port-def.name) (Finding 𝓤 H A at-mem run) → Triple 𝓤 (C slot-def.name) (Slotting 𝓤 H A at-mem run) → Triple 𝓤 (C call-def.name) (Calling 𝓤 H A at-mem run) → Triple 𝓤 (C update-def.name) (Updating a-change changing 𝓤 H A W)
