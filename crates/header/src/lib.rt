@@ -69,7 +69,8 @@ fn usable_fields(s: &[u8]) -> bool
     octets::read16(s, 14) as usize == n
 }
 
-fn header_fields(s: &[u8]) -> Header
+// What the header of a message says, usable or not.
+pub fn header_fields(s: &[u8]) -> Header
     requires { ⌜ 16 ≤ length (now s) ⌝ }
     ensures { λ r. ⌜ r ≡ headerIn (now (s .entry)) ⌝ }
 {

@@ -1,14 +1,14 @@
 -- The cases of a message, each from the tests that lead to it.
 --     size-least, rest-short     how long a message that is handed in is, and what follows its header
---     no-room, ..                13, and 15 for size and header
---     named-size, ..             the port that a message is about, by size and header
+--     named-size, .., right-by   the port that a message is about, by size and header
+--     no-room, unusable-is       13, and 15 for size and header
 --     passed-at                  a message that passes the table is about the port at the terms' place
 --     verdict-offered            a transfer, by what the table gives
 --     answer-taken, ..           by type and Result
 --     verdict-requested, of-144, ..   a request, by what the table gives and by type
 -- Assumes nothing.
-use mathlib.Core.Path.{_≡_, sym, ap, subst, _∙_}
-use mathlib.Core.Bool.{true, false}
+use mathlib.Core.Path.{_≡_, refl, sym, ap, subst, _∙_}
+use mathlib.Core.Bool.{Bool, true, false, cond}
 use mathlib.Core.List.{List, [], _∷_}
 use Prim.Native.Nat.{ℕ, _≤_, _<_}
 use native.Mathlib.Omega.{arith}
@@ -18,10 +18,14 @@ use borrow.Author.Tests.{leb-true}
 use Rattle.octets.proofs.Tests.{each}
 use Rattle.header.specs.declared.Header.{Header}
 use Rattle.header.specs.declared.Head.the-variants.{Unusable, Usable}
-use Rattle.header.specs.Header.{sizeOk, headIn}
+use Rattle.header.specs.Header.{sizeOk, usable, headerIn, headIn}
 use Rattle.items.specs.Items.{itemsOf, firstOf}
 use Rattle.fields.specs.declared.Request.{Request}
 use Rattle.fields.specs.Fields.{requestIn}
+use Rattle.rows.specs.declared.Found.{Found}
+use Rattle.rows.specs.declared.Found.the-variants.{At, Nothing}
+use Rattle.circuits.specs.Circuits.{portOf}
+use Rattle.circuits.proofs.Circuits.{port-found}
 use Rattle.pool.specs.declared.Pool.{Pool}
 use Rattle.card.specs.Cards.{Card, withPool}
 use Rattle.card.specs.declared.Terms.{Terms}
@@ -29,7 +33,7 @@ use Rattle.card.specs.Outcome.{Outcome, keeps}
 use Rattle.card.specs.Parts.{HasTerms}
 use Rattle.checks.specs.declared.Verdict.{Verdict}
 use Rattle.checks.specs.declared.Verdict.the-variants.{Passed}
-use Rattle.checks.specs.Table.{portNamed, tableOf}
+use Rattle.checks.specs.Table.{idIn, numberOf, portNamed, tableOf}
 use Rattle.checks.proofs.Rows.{passed-tells, passed-named, located-by}
 use Rattle.control.specs.Control.{controlled}
 use Rattle.transfers.specs.Transfers.{reallocated}
@@ -48,6 +52,44 @@ module _ (m : List ℕ) (size : sizeOk m ≡ true) where
       let h = leb-true (length m) 4096 (each (leb 16 (length m) ∷ leb (length m) 4096 ∷ []) size .1 .0) in
       simp length-drop (omega arith)
 
+by-usable : (m : List ℕ) (b : Bool) → usable m ≡ b → headIn m ≡ cond b (Usable (headerIn m)) Unusable
+unfolding headIn
+by-usable m b e = ap (λ (x : Bool). cond x (Usable (headerIn m)) Unusable) e
+
+-- ---- the port that a message is about: it is looked for where size and header are right
+most-named : (r : Found) → ((p : ℕ) → r ≡ At p → p < 64) → numberOf r ≤ 64
+unfolding numberOf
+most-named Nothing small = omega arith
+most-named (At p) small = omega (arith, small p refl)
+
+module _ (ids : List ℕ) (count : ℕ) (m : List ℕ) where
+  pub named-size : sizeOk m ≡ false → 65 ≡ namedIn ids count m
+  unfolding namedIn
+  named-size s = rw s
+
+  module _ (size : sizeOk m ≡ true) where
+    pub named-unusable : headIn m ≡ Unusable → 65 ≡ namedIn ids count m
+    unfolding namedIn namedBy
+    named-unusable e = rw (size, e)
+
+    pub named-usable : {h : Header} → headIn m ≡ Usable h → portNamed ids count (drop 16 m) ≡ namedIn ids count m
+    unfolding namedIn namedBy
+    named-usable e = rw (size, e)
+
+  named-most : portNamed ids count (drop 16 m) ≤ 64
+  unfolding portNamed
+  named-most = most-named (portOf ids count (idIn (drop 16 m))) (λ p e. port-found ids count (idIn (drop 16 m)) e .small)
+
+  -- they are right where it is at most 64
+  pub right-by : {p : ℕ} → p ≡ namedIn ids count m → p ≤ 64 → (sizeOk m ≡ true) × (headIn m ≡ Usable (headerIn m))
+  right-by {p} e l = go (sizeOk m) refl (usable m) refl
+    where
+      go : (b : Bool) → sizeOk m ≡ b → (u : Bool) → usable m ≡ u → (sizeOk m ≡ true) × (headIn m ≡ Usable (headerIn m))
+      go true s true u = (s, by-usable m true u)
+      go true s false u = absurd (omega (arith, e, named-unusable s (by-usable m false u)))
+      go false s u v = absurd (omega (arith, e, named-size s))
+
+-- ---- 13, 15
 module _ (ids channels : List ℕ) (card : Card) (m : List ℕ) (room : ℕ) where
   abbrev comes : Outcome
   comes = receivedOf ids channels card m room
@@ -57,33 +99,25 @@ module _ (ids channels : List ℕ) (card : Card) (m : List ℕ) (room : ℕ) whe
   no-room t = rw t
 
   module _ (full : ltb room 4608 ≡ false) where
-    pub bad-size : sizeOk m ≡ false → keeps card 15 ≡ comes
+    pub usable-is : {h : Header} → sizeOk m ≡ true → headIn m ≡ Usable h → byResult ids channels card h (drop 16 m) ≡ comes
+    unfolding receivedOf byHead
+    usable-is size e = rw (full, size, e)
+
+    bad-size : sizeOk m ≡ false → keeps card 15 ≡ comes
     unfolding receivedOf
     bad-size t = rw (full, t)
 
-    module _ (size : sizeOk m ≡ true) where
-      pub unusable-is : headIn m ≡ Unusable → keeps card 15 ≡ comes
-      unfolding receivedOf byHead
-      unusable-is e = rw (full, size, e)
+    bad-header : sizeOk m ≡ true → headIn m ≡ Unusable → keeps card 15 ≡ comes
+    unfolding receivedOf byHead
+    bad-header size e = rw (full, size, e)
 
-      pub usable-is : {h : Header} → headIn m ≡ Usable h → byResult ids channels card h (drop 16 m) ≡ comes
-      unfolding receivedOf byHead
-      usable-is e = rw (full, size, e)
-
--- ---- the port that a message is about: it is looked for where size and header are right
-module _ (ids : List ℕ) (count : ℕ) (m : List ℕ) where
-  pub named-size : sizeOk m ≡ false → 64 ≡ namedIn ids count m
-  unfolding namedIn
-  named-size s = rw s
-
-  module _ (size : sizeOk m ≡ true) where
-    pub named-unusable : headIn m ≡ Unusable → 64 ≡ namedIn ids count m
-    unfolding namedIn namedBy
-    named-unusable e = rw (size, e)
-
-    pub named-usable : {h : Header} → headIn m ≡ Usable h → portNamed ids count (drop 16 m) ≡ namedIn ids count m
-    unfolding namedIn namedBy
-    named-usable e = rw (size, e)
+    pub unusable-is : (count : ℕ) {p : ℕ} → p ≡ namedIn ids count m → 64 < p → keeps card 15 ≡ comes
+    unusable-is count {p} e l = go (sizeOk m) refl (usable m) refl
+      where
+        go : (b : Bool) → sizeOk m ≡ b → (u : Bool) → usable m ≡ u → keeps card 15 ≡ comes
+        go true s true u = absurd (omega (arith, e, named-usable ids count m s (by-usable m true u), named-most ids count m))
+        go true s false u = bad-header s (by-usable m false u)
+        go false s u v = bad-size s
 
 -- ---- the table, on a card with these terms; p is the port that the Target names
 module _ (ids s : List ℕ) {card : Card} {p : ℕ} {terms : Terms} (pool : Pool) (g : HasTerms card p terms) (e : p ≡ portNamed ids (terms .head .«port_count») s) where

@@ -18,16 +18,16 @@ ghost use Rattle.card.specs.Parts.{ComesTo};
 ghost use Rattle.checks.specs.Table.{portNamed, tableOf};
 ghost use Rattle.messages.specs.Messages.{isAnswer, isNotice, byType, requested, refusedNumber, offered, byResult, receivedOf, namedIn};
 
-// The port that a usable message's Target names, or 64: of an unusable one nothing behind the header is looked at.
+// The port that a message's Target names, or 64; 65 where size or header is wrong, and then nothing behind the header is looked at.
 pub fn port_named(ids: &[u8; 4096], port_count: usize, octets: &[u8]) -> usize
     ensures { λ r. ⌜ r ≡ namedIn (now (ids .entry)) «port_count» (now (octets .entry)) ⌝ }
 {
     if !header::size_ok(octets) {
-        return 64;
+        return 65;
     }
     let head = header::read_header(octets);
     match head {
-        Head::Unusable => 64,
+        Head::Unusable => 65,
         Head::Usable(_) => checks::port_named(ids, port_count, &octets[16..]),
     }
 }
@@ -51,26 +51,22 @@ pub fn message_in(
     if reply.len() < 4608 {
         return unchanged(terms, 13);
     }
-    if !header::size_ok(octets) {
+    if 64 < p {
         return unchanged(terms, 15);
     }
-    let head = header::read_header(octets);
-    match head {
-        Head::Unusable => unchanged(terms, 15),
-        Head::Usable(h) => by_result(
-            owner,
-            channel,
-            charged,
-            accounting,
-            ids,
-            channels,
-            terms,
-            p,
-            h,
-            &octets[16..],
-            reply,
-        ),
-    }
+    by_result(
+        owner,
+        channel,
+        charged,
+        accounting,
+        ids,
+        channels,
+        terms,
+        p,
+        header::header_fields(octets),
+        &octets[16..],
+        reply,
+    )
 }
 
 fn by_result(
