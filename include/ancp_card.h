@@ -108,8 +108,8 @@ ancp_started ancp_card_started(const uint8_t *ids, size_t ports, const uint32_t 
 
 /* Any call: *core and the start of `reply` are written, nothing else. Nothing of the core is copied but one port's record and its head
    (counter, counts, switches). */
-ancp_answer ancp_card_call(ancp_core *core, const uint8_t *ids, const uint32_t *channels, const uint32_t *entries, ancp_call call, const uint8_t *octets,
-                           size_t n, uint8_t *reply, size_t room);
+ancp_answer ancp_card_call(ancp_core *core, const ancp_call *call, const uint8_t *ids, const uint32_t *channels, const uint32_t *entries,
+                           const uint8_t *octets, size_t n, uint8_t *reply, size_t room);
 
 /* the readers take the core by value */
 bool ancp_card_up_in(ancp_core core, size_t p);
@@ -124,7 +124,7 @@ uint32_t ancp_card_next_in(ancp_core core);
    buffer is kept. Numbers 1 and 3 to 16 keep card and buffer. */
 static inline uint8_t ancp_calls(ancp_card *card, const ancp_tables *t, ancp_call call, const uint8_t *octets, size_t n, uint8_t *reply, size_t room,
                                  size_t *length) {
-    ancp_answer a = ancp_card_call(&card->core, t->ids, t->channels, t->entries, call, octets, n, reply, room);
+    ancp_answer a = ancp_card_call(&card->core, &call, t->ids, t->channels, t->entries, octets, n, reply, room);
     if (length) *length = a.length;
     return a.number;
 }

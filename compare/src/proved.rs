@@ -107,10 +107,10 @@ extern "C" {
     ) -> RawStarted;
     fn ancp_card_call(
         core: *mut RawCore,
+        call: *const RawCall,
         ids: Ids,
         channels: Words,
         entries: Words,
-        call: RawCall,
         octets: *const u8,
         n: usize,
         reply: *mut u8,
@@ -175,10 +175,10 @@ impl Proved {
         let answer = unsafe {
             ancp_card_call(
                 &mut self.core,
+                &call,
                 self.tables.ids.as_ptr(),
                 self.tables.channels.as_ptr(),
                 self.tables.entries.as_ptr(),
-                call,
                 octets.as_ptr(),
                 octets.len(),
                 reply.as_mut_ptr(),

@@ -61,15 +61,16 @@ pub struct Answer {
 #[no_mangle]
 pub extern "C" fn ancp_card_call(
     core: &mut Core,
+    call: &HostCall,
     ids: &[u8; 4096],
     channels: &[u32; 2816],
     entries: &[u32; 1536],
-    call: HostCall,
     octets: &[u8],
     reply: &mut [u8],
 ) -> Answer
-    ensures { λ r. ⌜ Answers (outcomeOf (tablesOf (cardOf (now (core .entry)) noAreas) (now (ids .entry)) (now (channels .entry)) (now (entries .entry))) (cardOf (now (core .entry)) noAreas) (callOf call (now (octets .entry)) (length (now (reply .entry))))) r (cardOf (now (core .exit)) noAreas) (now (reply .entry)) (now (reply .exit)) ⌝ }
+    ensures { λ r. ⌜ Answers (outcomeOf (tablesOf (cardOf (now (core .entry)) noAreas) (now (ids .entry)) (now (channels .entry)) (now (entries .entry))) (cardOf (now (core .entry)) noAreas) (callOf (now (call .entry)) (now (octets .entry)) (length (now (reply .entry))))) r (cardOf (now (core .exit)) noAreas) (now (reply .entry)) (now (reply .exit)) ⌝ }
 {
+    let call = *call;
     let head = core.head;
     let p = calls::port_of(ids, head.port_count, call, octets);
     let at = card::slot(p);

@@ -37,7 +37,7 @@ use denote.Array.{Array, array-vals}
 use denote.Ref.{RefT, MutRef, ShrRef, ptr-vals, mut-tells, shr-tells, shr-copy}
 use denote.Slice.{sliceVal, ShrSlice, MutSlice, finally, slice-vals, shr-slice-tells, shr-slice-lawful, shr-slice-copy, mut-slice-tells, mut-slice-lawful}
 use denote.Signature.{Slot, plain, shrRefTo, shrSliceOf}
-use denote.Steps.{opens, closes, owned, facts, heard, nothing, only}
+use denote.Steps.{opens, closes, looks, shuts, peeks, owned, facts, heard, nothing, only}
 use denote.Struct.Steps.{spelt}
 use denote.Struct.Struct.{Struct, struct-makes}
 use denote.Struct.Declared.{shape}
@@ -103,32 +103,32 @@ use Rattle.exports.proofs.ancp_card_call.Code as code
 -- ---- the parameters
 
 -- those of which nothing is needed at exit
-abbrev Ids : Slot 6
-Ids = shrRefTo (1 ∷ []) tt (plain (λ _. Array u8 4096))
+abbrev Arguments : Slot 7
+Arguments = shrRefTo (1 ∷ []) tt (plain (λ _. K.the-row))
 
-abbrev Channels : Slot 6
-Channels = shrRefTo (2 ∷ []) tt (plain (λ _. Array u32 2816))
+abbrev Ids : Slot 7
+Ids = shrRefTo (2 ∷ []) tt (plain (λ _. Array u8 4096))
 
-abbrev Entries : Slot 6
-Entries = shrRefTo (3 ∷ []) tt (plain (λ _. Array u32 1536))
+abbrev Channels : Slot 7
+Channels = shrRefTo (3 ∷ []) tt (plain (λ _. Array u32 2816))
 
-abbrev Arguments : Slot 6
-Arguments = plain (λ _. K.the-row)
+abbrev Entries : Slot 7
+Entries = shrRefTo (4 ∷ []) tt (plain (λ _. Array u32 1536))
 
-abbrev Octets : Slot 6
-Octets = shrSliceOf (4 ∷ []) tt (plain (λ _. u8))
+abbrev Octets : Slot 7
+Octets = shrSliceOf (5 ∷ []) tt (plain (λ _. u8))
 
 -- the core is still had, at its last value; of the areas and of the reply buffer what they hold last
 abbrev stayed : Stays (f.ended .signature .params) (f.ended .kept)
-stayed = (stay-ref (0 ∷ []) tt (plain (λ _. T.the-row)), (stay-dropped Ids yes, (stay-dropped Channels yes, (stay-dropped Entries yes, (stay-dropped Arguments yes, (stay-dropped Octets yes, (gave-slice (5 ∷ []) tt (plain (λ _. u8)), tt)))))))
+stayed = (stay-ref (0 ∷ []) tt (plain (λ _. T.the-row)), (stay-dropped Arguments yes, (stay-dropped Ids yes, (stay-dropped Channels yes, (stay-dropped Entries yes, (stay-dropped Octets yes, (gave-slice (6 ∷ []) tt (plain (λ _. u8)), tt)))))))
 
 abbrev Lent : Type 0
 Lent = RefT (List ℕ)
 
 -- the parameters but the core
-abbrev Rest : Lft → Lft → Lft → Lft → Lft → List RattleType
-Rest κ₁ κ₂ κ₃ κ₄ κ₅ = ShrRef (named 1) κ₁ (Array u8 4096) ∷ ShrRef (named 2) κ₂ (Array u32 2816) ∷ ShrRef (named 3) κ₃ (Array u32 1536) ∷ K.the-row ∷
-    ShrSlice (named 4) κ₄ u8 ∷ MutSlice (named 5) κ₅ u8 ∷ []
+abbrev Rest : Lft → Lft → Lft → Lft → Lft → Lft → List RattleType
+Rest κ₁ κ₂ κ₃ κ₄ κ₅ κ₆ = ShrRef (named 1) κ₁ K.the-row ∷ ShrRef (named 2) κ₂ (Array u8 4096) ∷ ShrRef (named 3) κ₃ (Array u32 2816) ∷
+    ShrRef (named 4) κ₄ (Array u32 1536) ∷ ShrSlice (named 5) κ₅ u8 ∷ MutSlice (named 6) κ₆ u8 ∷ []
 
 -- ---- the parts of the core, and where they lie: a new field in `Pool` or `Port` changes these numbers; one in `Head` does not
 abbrev record-size : ℕ
@@ -198,27 +198,32 @@ module _ {M : Type 1} (𝓤 : URA M) (H : Heap 𝓤) (A : Atoms 𝓤) (at-mem : 
   Calling = tripleOf 𝓤 H A call.signature (call.spec 𝓤 H A at-mem run)
 
 module _ {M : Type 1} (𝓤 : URA M) (H : Heap 𝓤) (A : Atoms 𝓤) (W : Given 𝓤 H A) (at-mem : Memory → SProp 𝓤) (run : Routine → Fun 𝓤)
-    (κ κ₁ κ₂ κ₃ κ₄ κ₅ : Lft) (q q₁ q₂ q₃ q₄ q₅ : Share) (b o : ℕ) (γ : GName) (h : Core) (ids channels entries : Lent) (k : HostCall) (s y : Lent) where
+    (κ κ₁ κ₂ κ₃ κ₄ κ₅ κ₆ : Lft) (q q₁ q₂ q₃ q₄ q₅ q₆ : Share) (b o : ℕ) (γ : GName) (h : Core) (lent-call : RefT HostCall)
+    (ids channels entries : Lent) (s y : Lent) where
   abbrev κs : Lfts 5
-  κs = (κ₁, (κ₂, (κ₃, (κ₄, (κ₅, tt)))))
+  κs = (κ₂, (κ₃, (κ₄, (κ₅, (κ₆, tt)))))
 
   abbrev qs : Shares 5
-  qs = (q₁, (q₂, (q₃, (q₄, (q₅, tt)))))
+  qs = (q₂, (q₃, (q₄, (q₅, (q₆, tt)))))
 
-  abbrev rest : Lent × (Lent × (Lent × (HostCall × (Lent × (Lent × Unit {0})))))
-  rest = (ids, (channels, (entries, (k, (s, (y, tt))))))
+  abbrev rest : RefT HostCall × (Lent × (Lent × (Lent × (Lent × (Lent × Unit {0})))))
+  rest = (lent-call, (ids, (channels, (entries, (s, (y, tt))))))
+
+  -- the call that is lent
+  abbrev k : HostCall
+  k = lent-call .now
 
   abbrev call-vals : List Val
   call-vals = LL.vals K.the-type K′.the-laws k
 
   abbrev rest-at : List Val × (List Val × (List Val × (List Val × (List Val × (List Val × Unit {0})))))
-  rest-at = (ptr-vals ids, (ptr-vals channels, (ptr-vals entries, (call-vals, (slice-vals s, (slice-vals y, tt))))))
+  rest-at = (ptr-vals lent-call, (ptr-vals ids, (ptr-vals channels, (ptr-vals entries, (slice-vals s, (slice-vals y, tt))))))
 
   abbrev lent-core : RefT Core
   lent-core = record { ptr = (b, o); name = γ; now = h }
 
   abbrev passed : List Val
-  passed = vptr b o ∷ only (ptr-vals ids) ∷ only (ptr-vals channels) ∷ only (ptr-vals entries) ∷ LL.val K.the-type K′.the-laws k ∷
+  passed = vptr b o ∷ only (ptr-vals lent-call) ∷ only (ptr-vals ids) ∷ only (ptr-vals channels) ∷ only (ptr-vals entries) ∷
       sliceVal (s .ptr) (length (s .now)) ∷ sliceVal (y .ptr) (length (y .now)) ∷ []
 
   -- the card at entry, and what the call comes to on any card
@@ -229,7 +234,7 @@ module _ {M : Type 1} (𝓤 : URA M) (H : Heap 𝓤) (A : Atoms 𝓤) (W : Given
   comes-on c = outcomeOf (S.tablesOf c (ids .now) (channels .now) (entries .now)) c (S.callOf k (s .now) (length (y .now)))
 
   abbrev bound : walkOf 𝓤 H A f.ended stayed (f.clauses 𝓤 H A at-mem run) .Ghost
-  bound = (((κ, κs), (q, qs), tt, (lent-core, rest), (vptr b o ∷ [], rest-at)), tt)
+  bound = (((κ, (κ₁, κs)), (q, (q₁, qs)), tt, (lent-core, rest), (vptr b o ∷ [], rest-at)), tt)
 
   abbrev Post : Val → SProp 𝓤
   Post = walkOf 𝓤 H A f.ended stayed (f.clauses 𝓤 H A at-mem run) .post bound
@@ -265,14 +270,14 @@ module _ {M : Type 1} (𝓤 : URA M) (H : Heap 𝓤) (A : Atoms 𝓤) (W : Given
   exits : (i : ℕ) (r : Effect) (zs : Lasts) → Is R.the-row (made r) (mach r ∷ [])
       → Answers (comes-on card) (made r) (cardOf (changed i r zs) (left zs)) (y .now) (last zs) → length (last zs) ≡ length (y .now)
       → ent 𝓤 (sep 𝓤 (A .obs γ (T.the-row .coded .code (changed i r zs))) (sep 𝓤 (A .bor κ (Body (mem T.the-row) b o γ)) (sep 𝓤 (A .lft κ q)
-      (sep 𝓤 (toks 𝓤 A 5 κs qs) (sem 𝓤 H A (finally u8 (y .name) (last zs))))))) (Post (mach r))
+      (sep 𝓤 (A .lft κ₁ q₁) (sep 𝓤 (toks 𝓤 A 5 κs qs) (sem 𝓤 H A (finally u8 (y .name) (last zs)))))))) (Post (mach r))
   exits i r zs is e l =
-      qed W (‵ (fobs γ (T.the-row .coded .code (changed i r zs))) ∷ ‵ (fbor κ (Body (mem T.the-row) b o γ)) ∷ ‵ (flft κ q) ∷ raw (toks 𝓤 A 5 κs qs) ∷
-      ‵ (finally u8 (y .name) (last zs)) ∷ []) ∵
+      qed W (‵ (fobs γ (T.the-row .coded .code (changed i r zs))) ∷ ‵ (fbor κ (Body (mem T.the-row) b o γ)) ∷ ‵ (flft κ q) ∷ ‵ (flft κ₁ q₁) ∷
+      raw (toks 𝓤 A 5 κs qs) ∷ ‵ (finally u8 (y .name) (last zs)) ∷ []) ∵
       suffices ! _ (ends-at 𝓤 H A f.ended stayed (f.clauses 𝓤 H A at-mem run) W bound (mach r) (made r)
       (changed i r zs, (tt, (tt, (tt, (tt, (tt, (last zs, tt)))))))
       (tt, (tt, (tt, (tt, (tt, (tt, (l, tt)))))))) $
-      says ! e $ move ! (2 ∷ 3 ∷ []) $ join ! $ frame ! $
+      says ! e $ move ! (3 ∷ 4 ∷ []) $ join ! $ move ! (3 ∷ 0 ∷ []) $ join ! $ frame ! $
       feqI ! (List Val) (vptr b o ∷ []) (vptr b o ∷ []) refl $ fjoin3 ! $ nothing ! $ move ! (2 ∷ 0 ∷ []) $ fjoin ! $
       nothing ! $ fjoin ! $ nothing ! $ fjoin ! $ nothing ! $ fjoin ! $ nothing ! $ fjoin ! $ nothing ! $ fjoin ! $ move ! (1 ∷ 0 ∷ []) $ fjoin ! $
       owned ! R.the-row (Is R.the-row) (LL.makes R.the-type R′.the-plain 𝓤 H A) (made r) _ is $ move ! (1 ∷ 0 ∷ []) $ done !
@@ -282,15 +287,15 @@ module _ {M : Type 1} (𝓤 : URA M) (H : Heap 𝓤) (A : Atoms 𝓤) (W : Given
   n = h .head .«port_count»
 
   abbrev to-port : Finding 𝓤 H A at-mem run .Ghost
-  to-port = (((κ₁, (κ₄, tt)), (q₁, (q₄, tt)), tt, (ids, (n, (k, (s, tt)))), (ptr-vals ids, (uint-vals w64 n, (call-vals, (slice-vals s, tt))))), tt)
+  to-port = (((κ₂, (κ₅, tt)), (q₂, (q₅, tt)), tt, (ids, (n, (k, (s, tt)))), (ptr-vals ids, (uint-vals w64 n, (call-vals, (slice-vals s, tt))))), tt)
 
   module _ (k-is : Is K.the-row k call-vals) (n-is : Is usize n (uint-vals w64 n)) where
-    goes-port : ent 𝓤 (sep 𝓤 (A .lft κ₁ q₁) (sep 𝓤 (A .lft κ₄ q₄)
-        (sep 𝓤 (sem 𝓤 H A (ShrRef (named 1) κ₁ (Array u8 4096) .own ids (ptr-vals ids))) (sem 𝓤 H A (ShrSlice (named 4) κ₄ u8 .own s (slice-vals s))))))
+    goes-port : ent 𝓤 (sep 𝓤 (A .lft κ₂ q₂) (sep 𝓤 (A .lft κ₅ q₅)
+        (sep 𝓤 (sem 𝓤 H A (ShrRef (named 2) κ₂ (Array u8 4096) .own ids (ptr-vals ids))) (sem 𝓤 H A (ShrSlice (named 5) κ₅ u8 .own s (slice-vals s))))))
         (Finding 𝓤 H A at-mem run .pre to-port)
     goes-port =
-        qed W (‵ (flft κ₁ q₁) ∷ ‵ (flft κ₄ q₄) ∷ ‵ (ShrRef (named 1) κ₁ (Array u8 4096) .own ids (ptr-vals ids)) ∷
-        ‵ (ShrSlice (named 4) κ₄ u8 .own s (slice-vals s)) ∷ []) ∵
+        qed W (‵ (flft κ₂ q₂) ∷ ‵ (flft κ₅ q₅) ∷ ‵ (ShrRef (named 2) κ₂ (Array u8 4096) .own ids (ptr-vals ids)) ∷
+        ‵ (ShrSlice (named 5) κ₅ u8 .own s (slice-vals s)) ∷ []) ∵
         nothing ! $ move ! (4 ∷ 0 ∷ []) $ fjoin ! $
         owned ! K.the-row (Is K.the-row) (LL.makes K.the-type K′.the-plain 𝓤 H A) k _ k-is $ fjoin ! $
         owned ! usize (Is usize) (uint-makes 𝓤 H A W w64) n _ n-is $ fjoin ! $ move ! (3 ∷ 0 ∷ []) $ fjoin ! $
@@ -338,26 +343,26 @@ module _ {M : Type 1} (𝓤 : URA M) (H : Heap 𝓤) (A : Atoms 𝓤) (W : Given
     goes-call : Whole (h .pool) → i < 64 → p ≡ S.portAbout (ids .now) n k (s .now) → i < 2 ^ 64 → Is Hd.the-row (h .head) head-vals
         → Is P.the-row (x i) record-vals → p < 2 ^ 64 → Is K.the-row k call-vals
         → ent 𝓤 (sep 𝓤 (A .lft (ν₀ ∷ []) fullShare) (sep 𝓤 (A .lft (ν₁ ∷ []) fullShare) (sep 𝓤 (A .lft (ν₂ ∷ []) fullShare) (sep 𝓤 (A .lft (ν₃ ∷ []) fullShare)
-        (sep 𝓤 (A .lft κ₁ q₁) (sep 𝓤 (A .lft κ₂ q₂) (sep 𝓤 (A .lft κ₃ q₃) (sep 𝓤 (A .lft κ₄ q₄) (sep 𝓤 (A .lft κ₅ q₅)
+        (sep 𝓤 (A .lft κ₂ q₂) (sep 𝓤 (A .lft κ₃ q₃) (sep 𝓤 (A .lft κ₄ q₄) (sep 𝓤 (A .lft κ₅ q₅) (sep 𝓤 (A .lft κ₆ q₆)
         (sep 𝓤 (sem 𝓤 H A (MutRef (named 0) (ν₀ ∷ []) (Array u8 512) .own owner (vptr b (o + pool-at + 0) ∷ [])))
         (sep 𝓤 (sem 𝓤 H A (MutRef (named 1) (ν₁ ∷ []) (Array u8 512) .own channel (vptr b (o + pool-at + channel-at) ∷ [])))
         (sep 𝓤 (sem 𝓤 H A (MutRef (named 2) (ν₂ ∷ []) (Array bool 512) .own charged (vptr b (o + pool-at + charged-at) ∷ [])))
         (sep 𝓤 (sem 𝓤 H A (MutRef (named 3) (ν₃ ∷ []) (Array u8 512) .own accounting (vptr b (o + pool-at + accounting-at) ∷ [])))
-        (sep 𝓤 (sem 𝓤 H A (ShrRef (named 1) κ₁ (Array u8 4096) .own ids (ptr-vals ids)))
-        (sep 𝓤 (sem 𝓤 H A (ShrRef (named 2) κ₂ (Array u32 2816) .own channels (ptr-vals channels)))
-        (sep 𝓤 (sem 𝓤 H A (ShrRef (named 3) κ₃ (Array u32 1536) .own entries (ptr-vals entries)))
-        (sep 𝓤 (sem 𝓤 H A (ShrSlice (named 4) κ₄ u8 .own s (slice-vals s))) (sem 𝓤 H A (MutSlice (named 5) κ₅ u8 .own y (slice-vals y))))))))))))))))))))
+        (sep 𝓤 (sem 𝓤 H A (ShrRef (named 2) κ₂ (Array u8 4096) .own ids (ptr-vals ids)))
+        (sep 𝓤 (sem 𝓤 H A (ShrRef (named 3) κ₃ (Array u32 2816) .own channels (ptr-vals channels)))
+        (sep 𝓤 (sem 𝓤 H A (ShrRef (named 4) κ₄ (Array u32 1536) .own entries (ptr-vals entries)))
+        (sep 𝓤 (sem 𝓤 H A (ShrSlice (named 5) κ₅ u8 .own s (slice-vals s))) (sem 𝓤 H A (MutSlice (named 6) κ₆ u8 .own y (slice-vals y))))))))))))))))))))
         (Calling 𝓤 H A at-mem run .pre to-call)
     goes-call whole-is small p-eq i-fits h-is x-is p-fits k-is =
-        qed W (‵ (flft (ν₀ ∷ []) fullShare) ∷ ‵ (flft (ν₁ ∷ []) fullShare) ∷ ‵ (flft (ν₂ ∷ []) fullShare) ∷ ‵ (flft (ν₃ ∷ []) fullShare) ∷ ‵ (flft κ₁ q₁) ∷
-        ‵ (flft κ₂ q₂) ∷ ‵ (flft κ₃ q₃) ∷ ‵ (flft κ₄ q₄) ∷ ‵ (flft κ₅ q₅) ∷
+        qed W (‵ (flft (ν₀ ∷ []) fullShare) ∷ ‵ (flft (ν₁ ∷ []) fullShare) ∷ ‵ (flft (ν₂ ∷ []) fullShare) ∷ ‵ (flft (ν₃ ∷ []) fullShare) ∷ ‵ (flft κ₂ q₂) ∷
+        ‵ (flft κ₃ q₃) ∷ ‵ (flft κ₄ q₄) ∷ ‵ (flft κ₅ q₅) ∷ ‵ (flft κ₆ q₆) ∷
         ‵ (MutRef (named 0) (ν₀ ∷ []) (Array u8 512) .own owner (vptr b (o + pool-at + 0) ∷ [])) ∷
         ‵ (MutRef (named 1) (ν₁ ∷ []) (Array u8 512) .own channel (vptr b (o + pool-at + channel-at) ∷ [])) ∷
         ‵ (MutRef (named 2) (ν₂ ∷ []) (Array bool 512) .own charged (vptr b (o + pool-at + charged-at) ∷ [])) ∷
         ‵ (MutRef (named 3) (ν₃ ∷ []) (Array u8 512) .own accounting (vptr b (o + pool-at + accounting-at) ∷ [])) ∷
-        ‵ (ShrRef (named 1) κ₁ (Array u8 4096) .own ids (ptr-vals ids)) ∷ ‵ (ShrRef (named 2) κ₂ (Array u32 2816) .own channels (ptr-vals channels)) ∷
-        ‵ (ShrRef (named 3) κ₃ (Array u32 1536) .own entries (ptr-vals entries)) ∷ ‵ (ShrSlice (named 4) κ₄ u8 .own s (slice-vals s)) ∷
-        ‵ (MutSlice (named 5) κ₅ u8 .own y (slice-vals y)) ∷ []) ∵
+        ‵ (ShrRef (named 2) κ₂ (Array u8 4096) .own ids (ptr-vals ids)) ∷ ‵ (ShrRef (named 3) κ₃ (Array u32 2816) .own channels (ptr-vals channels)) ∷
+        ‵ (ShrRef (named 4) κ₄ (Array u32 1536) .own entries (ptr-vals entries)) ∷ ‵ (ShrSlice (named 5) κ₅ u8 .own s (slice-vals s)) ∷
+        ‵ (MutSlice (named 6) κ₆ u8 .own y (slice-vals y)) ∷ []) ∵
         says ! (whole-is, small, p-eq) $ nothing ! $
         move ! (9 ∷ 0 ∷ []) $ join ! $ move ! (8 ∷ 0 ∷ []) $ join ! $ move ! (7 ∷ 0 ∷ []) $ join ! $ move ! (6 ∷ 0 ∷ []) $ join ! $ move ! (5 ∷ 0 ∷ []) $
         join ! $ move ! (4 ∷ 0 ∷ []) $ join ! $ move ! (3 ∷ 0 ∷ []) $ join ! $ move ! (2 ∷ 0 ∷ []) $ join ! $ move ! (1 ∷ 0 ∷ []) $ join ! $ frame ! $
@@ -373,148 +378,166 @@ module _ {M : Type 1} (𝓤 : URA M) (H : Heap 𝓤) (A : Atoms 𝓤) (W : Given
   module _ (C : Calls 𝓤 H) (Λ : Loops 𝓤 H) (fm : FmC 𝓤 H (W .laws) C)
       (finding : Triple 𝓤 (C port-def.name) (Finding 𝓤 H A at-mem run)) (slotting : Triple 𝓤 (C slot-def.name) (Slotting 𝓤 H A at-mem run))
       (calling : Triple 𝓤 (C call-def.name) (Calling 𝓤 H A at-mem run)) (updating : Triple 𝓤 (C update-def.name) (Updating a-change changing 𝓤 H A W))
-      (k-is : Is K.the-row k call-vals) (s-is : Is (ShrSlice (named 4) κ₄ u8) s (slice-vals s)) (y-is : Is (MutSlice (named 5) κ₅ u8) y (slice-vals y)) where
-    walk : ent 𝓤 (onEntry 𝓤 H A f.signature (κ, κs) (q, qs) (lent-core, rest) (vptr b o ∷ [], rest-at)) (WpFn 𝓤 H C Λ code.function passed Post)
+      (s-is : Is (ShrSlice (named 5) κ₅ u8) s (slice-vals s)) (y-is : Is (MutSlice (named 6) κ₆ u8) y (slice-vals y)) where
+    walk : ent 𝓤 (onEntry 𝓤 H A f.signature (κ, (κ₁, κs)) (q, (q₁, qs)) (lent-core, rest) (vptr b o ∷ [], rest-at)) (WpFn 𝓤 H C Λ code.function passed Post)
     walk =
-        let call-typed = LL.lawful K.the-type K′.the-laws 𝓤 H A W .typed k _ k-is .0 in
-        let octets-typed = shr-slice-lawful 𝓤 H A W (named 4) κ₄ u8 .typed s _ s-is .0 in
-        let reply-typed = mut-slice-lawful 𝓤 H A W (named 5) κ₅ u8 .typed y _ y-is .0 in
-        qed W ((‵ (flft κ q) ⊛ (‵ (flft κ₁ q₁) ⊛ (‵ (flft κ₂ q₂) ⊛ (‵ (flft κ₃ q₃) ⊛ (‵ (flft κ₄ q₄) ⊛ (‵ (flft κ₅ q₅) ⊛
-        ‵ ftrue)))))) ∷ ‵ (owns (MutRef (named 0) κ T.the-row ∷ Rest κ₁ κ₂ κ₃ κ₄ κ₅) (lent-core, rest) (vptr b o ∷ [], rest-at)) ∷ []) ∵
+        let octets-typed = shr-slice-lawful 𝓤 H A W (named 5) κ₅ u8 .typed s _ s-is .0 in
+        let reply-typed = mut-slice-lawful 𝓤 H A W (named 6) κ₆ u8 .typed y _ y-is .0 in
+        qed W ((‵ (flft κ q) ⊛ (‵ (flft κ₁ q₁) ⊛ (‵ (flft κ₂ q₂) ⊛ (‵ (flft κ₃ q₃) ⊛ (‵ (flft κ₄ q₄) ⊛ (‵ (flft κ₅ q₅) ⊛ (‵ (flft κ₆ q₆) ⊛
+        ‵ ftrue))))))) ∷ ‵ (owns (MutRef (named 0) κ T.the-row ∷ Rest κ₁ κ₂ κ₃ κ₄ κ₅ κ₆) (lent-core, rest) (vptr b o ∷ [], rest-at)) ∷ []) ∵
         split ! $ move ! (1 ∷ []) $ split ! $ move ! (1 ∷ []) $ split ! $ move ! (1 ∷ []) $ split ! $ move ! (1 ∷ []) $ split ! $ move ! (1 ∷ []) $ split ! $
-        move ! (1 ∷ []) $ drop ! $
-        -- [κ₅; κ₄; κ₃; κ₂; κ₁; κ; what the parameters own]
-        move ! (6 ∷ []) $ fsplit ! $ fsplit3 ! $ drop ! $ move ! (2 ∷ []) $ fsplit ! $ move ! (1 ∷ []) $ fsplit ! $ move ! (1 ∷ []) $ fsplit ! $
-        move ! (1 ∷ []) $ fsplit ! $ drop ! $ fsplit ! $ move ! (1 ∷ []) $ fsplit ! $ move ! (1 ∷ []) $ drop ! $
-        -- [reply; octets; entries; channels; ids; obs; the borrow; κ₅; κ₄; κ₃; κ₂; κ₁; κ]
-        move ! (5 ∷ 6 ∷ 12 ∷ 4 ∷ 3 ∷ 2 ∷ 1 ∷ 0 ∷ 11 ∷ 10 ∷ 9 ∷ 8 ∷ 7 ∷ []) $
+        move ! (1 ∷ []) $ split ! $ move ! (1 ∷ []) $ drop ! $
+        -- [κ₆; κ₅; κ₄; κ₃; κ₂; κ₁; κ; what the parameters own]
+        move ! (7 ∷ []) $ fsplit ! $ fsplit3 ! $ drop ! $ move ! (2 ∷ []) $ fsplit ! $ move ! (1 ∷ []) $ fsplit ! $ move ! (1 ∷ []) $ fsplit ! $
+        move ! (1 ∷ []) $ fsplit ! $ move ! (1 ∷ []) $ fsplit ! $ move ! (1 ∷ []) $ fsplit ! $ move ! (1 ∷ []) $ drop ! $
+        -- [reply; octets; entries; channels; ids; call; obs; the borrow; κ₆; κ₅; κ₄; κ₃; κ₂; κ₁; κ]
+        move ! (6 ∷ 7 ∷ 14 ∷ 5 ∷ 4 ∷ 3 ∷ 2 ∷ 1 ∷ 0 ∷ 13 ∷ 12 ∷ 11 ∷ 10 ∷ 9 ∷ 8 ∷ []) $
         enter ! C Λ code.function passed _ $
         alloc1 ! (λ l₀. alloc1 ! (λ l₁. alloc1 ! (λ l₂. alloc1 ! (λ l₃. alloc1 ! (λ l₄. alloc1 ! (λ l₅. alloc1 ! (λ l₆. alloc1 ! (λ l₇. alloc1 ! (λ l₈.
         alloc1 ! (λ l₉. alloc1 ! (λ l₁₀. alloc1 ! (λ l₁₁. alloc1 ! (λ l₁₂. alloc1 ! (λ l₁₃. alloc1 ! (λ l₁₄. alloc1 ! (λ l₁₅. alloc1 ! (λ l₁₆. alloc1 ! (λ l₁₇.
         alloc1 ! (λ l₁₈. alloc1 ! (λ l₁₉. alloc1 ! (λ l₂₀. alloc1 ! (λ l₂₁. alloc1 ! (λ l₂₂. alloc1 ! (λ l₂₃. alloc1 ! (λ l₂₄. alloc1 ! (λ l₂₅. alloc1 ! (λ l₂₆.
-        alloc0 ! $ params1 ! $
-        -- [_26, …, _0; obs; the borrow; κ; ids; channels; entries; octets; reply; κ₁; κ₂; κ₃; κ₄; κ₅]
-        pass1 ! (init ! 50 refl (tt, tt)) $ pass1 ! (init ! 48 refl (tt, tt)) $ pass1 ! (init ! 46 refl (tt, tt)) $ pass1 ! (init ! 44 refl (tt, tt)) $
-        pass1 ! (init ! 42 refl call-typed) $ pass1 ! (init ! 40 refl octets-typed) $ pass1 ! (init ! 38 refl reply-typed) $ pass0 ! $
-        move ! (54 ∷ 55 ∷ 56 ∷ []) $ opens ! tt T.the-row {h = h} b o (λ vs.
+        alloc1 ! (λ l₂₇. alloc0 ! $ params1 ! $
+        -- [_27, …, _0; obs; the borrow; κ; call; ids; channels; entries; octets; reply; κ₁; κ₂; κ₃; κ₄; κ₅; κ₆]
+        pass1 ! (init ! 52 refl (tt, tt)) $ pass1 ! (init ! 50 refl (tt, tt)) $ pass1 ! (init ! 48 refl (tt, tt)) $ pass1 ! (init ! 46 refl (tt, tt)) $
+        pass1 ! (init ! 44 refl (tt, tt)) $ pass1 ! (init ! 42 refl octets-typed) $ pass1 ! (init ! 40 refl reply-typed) $ pass0 ! $
+        move ! (59 ∷ []) $ fsplit3 ! $ drop ! $
+        -- [what it resolves to; its borrow; _27, …, _0; obs; the borrow; κ; ids; channels; entries; octets; reply; κ₁; κ₂; κ₃; κ₄; κ₅; κ₆]
+        move ! (1 ∷ 66 ∷ []) $ looks ! tt K.the-row (Is K.the-row) (shows 𝓤 H A K.the-row) (LL.vals K.the-type K′.the-laws) (LL.tells K.the-type K′.the-laws)
+        (LL.copy K.the-type K′.the-copy 𝓤 H A W) k (lent-call .ptr .0) (lent-call .ptr .1) (λ q′ vs.
+        spelt ! K.the-row (Is K.the-row) (shows 𝓤 H A K.the-row) (LL.vals K.the-type K′.the-laws) (LL.tells K.the-type K′.the-laws) q′ k vs (lent-call .ptr .0) (lent-call .ptr .1) $
+        move ! (1 ∷ []) $ peeks ! K.the-row (Is K.the-row) (shows 𝓤 H A K.the-row) k call-vals (λ k-is. move ! (1 ∷ 0 ∷ []) $
+        -- [a share of its cell; what it owns; what shuts it; its borrow; what it resolves to; _27, …, _0; obs; the borrow; κ; ids; channels; entries; octets;
+        -- reply; κ₂; κ₃; κ₄; κ₅; κ₆]
+        assigns ! (of-opd ! (load ! (from ! (hop ! (look ! 55 refl) (stop !))) (look-raw ! 0 refl)))
+        (from ! (stop !)) (init ! 43 refl (LL.lawful K.the-type K′.the-laws 𝓤 H A W .typed k _ k-is .0)) $
+        shuts ! tt K.the-row q′ k call-vals (lent-call .ptr .0) (lent-call .ptr .1) $
+        -- [κ₁; its borrow; what it resolves to; _27, …, _0; obs; the borrow; κ; ids; channels; entries; octets; reply; κ₂; κ₃; κ₄; κ₅; κ₆]
+        move ! (1 ∷ []) $ drop ! $
+        -- [κ₁; what it resolves to; _27, …, _0; obs; the borrow; κ; ids; channels; entries; octets; reply; κ₂; κ₃; κ₄; κ₅; κ₆]
+        move ! (1 ∷ []) $ drop ! $
+        -- [κ₁; _27, …, _0; obs; the borrow; κ; ids; channels; entries; octets; reply; κ₂; κ₃; κ₄; κ₅; κ₆]
+        move ! (57 ∷ 58 ∷ 59 ∷ []) $ opens ! tt T.the-row {h = h} b o (λ vs.
         spelt ! T.the-row (Is T.the-row) (shows 𝓤 H A T.the-row) (LL.vals T.the-type T′.the-laws) (LL.tells T.the-type T′.the-laws) fullShare h vs b o $
         move ! (1 ∷ []) $ facts ! T.the-row (Is T.the-row) (shows 𝓤 H A T.the-row) h (LL.vals T.the-type T′.the-laws h) (λ was.
         let parts = LL.owed T.the-type T′.the-laws h _ was in
         let maps = LL.owed Q.the-type Q′.the-laws (h .pool) _ (parts .1 .0) in
         let n-is = LL.owed Hd.the-type Hd′.the-laws (h .head) _ (parts .1 .1 .0) .0 in
         apart 𝓤 H A W [] (types-of T.the-type) b o (values-of T.the-type T′.the-laws h) (
-        -- [head; pool; ports; the way back; the open borrow; obs; auth; _26, …, _0; ids; channels; entries; octets; reply; κ₁; κ₂; κ₃; κ₄; κ₅]
-        assigns ! (of-opd ! (load ! (from ! (hop ! (look ! 57 refl) (fld ! {d = head-at} refl (stop !)))) (look-raw ! 0 refl)))
-        (from ! (stop !)) (init ! 43 refl (LL.lawful Hd.the-type Hd′.the-laws 𝓤 H A W .typed (h .head) _ (parts .1 .1 .0) .0)) $
+        -- [head; pool; ports; the way back; the open borrow; obs; auth; κ₁; _27, …, _0; ids; channels; entries; octets; reply; κ₂; κ₃; κ₄; κ₅; κ₆]
+        assigns ! (of-opd ! (load ! (from ! (hop ! (look ! 60 refl) (fld ! {d = head-at} refl (stop !)))) (look-raw ! 0 refl)))
+        (from ! (stop !)) (init ! 44 refl (LL.lawful Hd.the-type Hd′.the-laws 𝓤 H A W .typed (h .head) _ (parts .1 .1 .0) .0)) $
         -- the port that the call is about
-        move ! (61 ∷ []) $
-        use1 W (‵ (ShrRef (named 1) κ₁ (Array u8 4096) .own ids (ptr-vals ids)) ⊛ ‵ (ShrRef (named 1) κ₁ (Array u8 4096) .own ids (ptr-vals ids)))
-        (shr-copy 𝓤 H A W (named 1) κ₁ (Array u8 4096) .twice ids (ptr-vals ids)) $ split ! $
-        -- [a copy of ids; ids; head; pool; ports; the way back; the open borrow; obs; auth; _26, …, _0; channels; entries; octets; reply; κ₁; κ₂; κ₃; κ₄; κ₅]
-        move ! (65 ∷ []) $ use1 W (‵ (ShrSlice (named 4) κ₄ u8 .own s (slice-vals s)) ⊛ ‵ (ShrSlice (named 4) κ₄ u8 .own s (slice-vals s)))
-        (shr-slice-copy 𝓤 H A W (named 4) κ₄ u8 .twice s (slice-vals s)) $ split ! $
-        -- [a copy of octets; octets; a copy of ids; ids; head; pool; ports; the way back; the open borrow; obs; auth; _26, …, _0; channels; entries; reply; κ₁;
-        -- κ₂; κ₃; κ₄; κ₅]
-        move ! (68 ∷ 71 ∷ 2 ∷ 0 ∷ []) $ group ! 4 $
+        move ! (64 ∷ []) $
+        use1 W (‵ (ShrRef (named 2) κ₂ (Array u8 4096) .own ids (ptr-vals ids)) ⊛ ‵ (ShrRef (named 2) κ₂ (Array u8 4096) .own ids (ptr-vals ids)))
+        (shr-copy 𝓤 H A W (named 2) κ₂ (Array u8 4096) .twice ids (ptr-vals ids)) $ split ! $
+        -- [a copy of ids; ids; head; pool; ports; the way back; the open borrow; obs; auth; κ₁; _27, …, _0; channels; entries; octets; reply; κ₂; κ₃; κ₄; κ₅;
+        -- κ₆]
+        move ! (68 ∷ []) $ use1 W (‵ (ShrSlice (named 5) κ₅ u8 .own s (slice-vals s)) ⊛ ‵ (ShrSlice (named 5) κ₅ u8 .own s (slice-vals s)))
+        (shr-slice-copy 𝓤 H A W (named 5) κ₅ u8 .twice s (slice-vals s)) $ split ! $
+        -- [a copy of octets; octets; a copy of ids; ids; head; pool; ports; the way back; the open borrow; obs; auth; κ₁; _27, …, _0; channels; entries; reply;
+        -- κ₂; κ₃; κ₄; κ₅; κ₆]
+        move ! (71 ∷ 74 ∷ 2 ∷ 0 ∷ []) $ group ! 4 $
         use1 W (raw (Finding 𝓤 H A at-mem run .pre to-port)) (goes-port k-is n-is) $
-        -- [what `port_of` takes; octets; ids; head; pool; ports; the way back; the open borrow; obs; auth; _26, …, _0; channels; entries; reply; κ₂; κ₃; κ₅]
-        calls-at ! fm (Finding 𝓤 H A at-mem run) finding to-port (and-then ! (load ! (from ! (stop !)) (look ! 58 refl))
-        (and-then ! (load ! (from ! (fld ! refl (stop !))) (look-in ! 46 (sub ! 0 refl (whole !)))) (and-then ! (load ! (from ! (stop !)) (look ! 52 refl))
-        (and-then ! (load ! (from ! (stop !)) (look ! 50 refl)) (no-more !))))) (λ w.
-        use1 W (later (some (λ (p : ℕ). ((‵ (flft κ₁ q₁) ⊛ (‵ (flft κ₄ q₄) ⊛ ‵ ftrue)) ⊛ ‵ (usize .own p (w ∷ []))) ⊛
-        raw (ensured 𝓤 H A port.ended (port.clauses 𝓤 H A at-mem run) (κ₁, (κ₄, tt)) (ids, (n, (k, (s, tt)))) tt p)))) (id⊢ 𝓤 _) $
+        -- [what `port_of` takes; octets; ids; head; pool; ports; the way back; the open borrow; obs; auth; κ₁; _27, …, _0; channels; entries; reply; κ₃; κ₄;
+        -- κ₆]
+        calls-at ! fm (Finding 𝓤 H A at-mem run) finding to-port (and-then ! (load ! (from ! (stop !)) (look ! 59 refl))
+        (and-then ! (load ! (from ! (fld ! refl (stop !))) (look-in ! 47 (sub ! 0 refl (whole !)))) (and-then ! (load ! (from ! (stop !)) (look ! 49 refl))
+        (and-then ! (load ! (from ! (stop !)) (look ! 53 refl)) (no-more !))))) (λ w.
+        use1 W (later (some (λ (p : ℕ). ((‵ (flft κ₂ q₂) ⊛ (‵ (flft κ₅ q₅) ⊛ ‵ ftrue)) ⊛ ‵ (usize .own p (w ∷ []))) ⊛
+        raw (ensured 𝓤 H A port.ended (port.clauses 𝓤 H A at-mem run) (κ₂, (κ₅, tt)) (ids, (n, (k, (s, tt)))) tt p)))) (id⊢ 𝓤 _) $
         await ! tt $ pick ! (λ p. split ! $ move ! (1 ∷ []) $
         use1 W (some (λ (zs : Unit {0} × (Unit {0} × (Unit {0} × (Unit {0} × Unit {0})))).
-        ‵ (lasts port.ended (κ₁, (κ₄, tt)) (ids, (n, (k, (s, tt)))) zs) ⊛ raw (fact 𝓤 (p ≡ S.portAbout (ids .now) n k (s .now)))))
+        ‵ (lasts port.ended (κ₂, (κ₅, tt)) (ids, (n, (k, (s, tt)))) zs) ⊛ raw (fact 𝓤 (p ≡ S.portAbout (ids .now) n k (s .now)))))
         (id⊢ 𝓤 _) $ pick ! (λ _. split ! $ drop ! $ heard ! (p ≡ S.portAbout (ids .now) n k (s .now)) (λ p-eq. split ! $ move ! (1 ∷ []) $
         facts ! usize (Is usize) (shows 𝓤 H A usize) p (w ∷ []) (λ p-is. split ! $ move ! (1 ∷ []) $ split ! $ move ! (1 ∷ []) $ drop ! $
-        -- [κ₄; κ₁; octets; ids; head; pool; ports; the way back; the open borrow; obs; auth; _26, …, _0; channels; entries; reply; κ₂; κ₃; κ₅]
-        land ! (from ! (stop !)) (init ! 45 refl
+        -- [κ₅; κ₂; octets; ids; head; pool; ports; the way back; the open borrow; obs; auth; κ₁; _27, …, _0; channels; entries; reply; κ₃; κ₄; κ₆]
+        land ! (from ! (stop !)) (init ! 46 refl
         (subst (λ (z : Val). Holds (hasTy (tyInt w64) z) × WT z) (sym (ap only (p-is .0))) (tt, record { fits = p-is .1 }))) $
-        rewrite ! 45 (λ (z : Val). ‵ (fat fullShare (tyInt w64) l₉ 0 z)) (ap only (p-is .0)) refl $
+        rewrite ! 46 (λ (z : Val). ‵ (fat fullShare (tyInt w64) l₁₀ 0 z)) (ap only (p-is .0)) refl $
         -- where its record lies
         owned ! usize (Is usize) (uint-makes 𝓤 H A W w64) p _ (refl, p-is .1) $
         use1 W (raw (Slotting 𝓤 H A at-mem run .pre (to-slot p))) (goes-slot p) $
-        -- [what `slot` takes; κ₄; κ₁; octets; ids; head; pool; ports; the way back; the open borrow; obs; auth; _26, …, _0; channels; entries; reply; κ₂; κ₃;
-        -- κ₅]
-        calls-at ! fm (Slotting 𝓤 H A at-mem run) slotting (to-slot p) (and-then ! (load ! (from ! (stop !)) (look ! 46 refl)) (no-more !)) (λ u.
+        -- [what `slot` takes; κ₅; κ₂; octets; ids; head; pool; ports; the way back; the open borrow; obs; auth; κ₁; _27, …, _0; channels; entries; reply; κ₃;
+        -- κ₄; κ₆]
+        calls-at ! fm (Slotting 𝓤 H A at-mem run) slotting (to-slot p) (and-then ! (load ! (from ! (stop !)) (look ! 47 refl)) (no-more !)) (λ u.
         use1 W (later (some (λ (i : ℕ). (‵ ftrue ⊛ ‵ (usize .own i (u ∷ []))) ⊛
         raw (ensured 𝓤 H A slot.ended (slot.clauses 𝓤 H A at-mem run) tt (p, tt) tt i)))) (id⊢ 𝓤 _) $
         await ! tt $ pick ! (λ i. split ! $ move ! (1 ∷ []) $
         use1 W (some (λ (zs : Unit {0} × Unit {0}). ‵ (lasts slot.ended tt (p, tt) zs) ⊛ raw (fact 𝓤 ((i < 64) × (p < 64 → i ≡ p)))))
         (id⊢ 𝓤 _) $ pick ! (λ _. split ! $ drop ! $ heard ! ((i < 64) × (p < 64 → i ≡ p)) (λ at. split ! $ drop ! $
         facts ! usize (Is usize) (shows 𝓤 H A usize) i (u ∷ []) (λ i-is.
-        -- [κ₄; κ₁; octets; ids; head; pool; ports; the way back; the open borrow; obs; auth; _26, …, _0; channels; entries; reply; κ₂; κ₃; κ₅]
-        land ! (from ! (stop !)) (init ! 43 refl
+        -- [κ₅; κ₂; octets; ids; head; pool; ports; the way back; the open borrow; obs; auth; κ₁; _27, …, _0; channels; entries; reply; κ₃; κ₄; κ₆]
+        land ! (from ! (stop !)) (init ! 44 refl
         (subst (λ (z : Val). Holds (hasTy (tyInt w64) z) × WT z) (sym (ap only (i-is .0))) (tt, record { fits = i-is .1 }))) $
-        rewrite ! 43 (λ (z : Val). ‵ (fat fullShare (tyInt w64) l₁₀ 0 z)) (ap only (i-is .0)) refl $
-        assigns ! (bin ! (load ! (from ! (stop !)) (look ! 43 refl)) (lit ! tt) (record { fits = scaled (at .0) }))
-        (from ! (stop !)) (init ! 37 refl (tt, record { fits = scaled (at .0) })) $
-        assigns ! (addr ! (from ! (hop ! (look ! 61 refl) (fld ! {d = 0} refl (stop !))))) (from ! (stop !)) (init ! 35 refl (tt, tt)) $
-        assigns ! (bin ! (load ! (from ! (stop !)) (look ! 35 refl)) (load ! (from ! (stop !)) (look ! 37 refl)) tt)
-        (from ! (stop !)) (init ! 33 refl (tt, tt)) $
+        rewrite ! 44 (λ (z : Val). ‵ (fat fullShare (tyInt w64) l₁₁ 0 z)) (ap only (i-is .0)) refl $
+        assigns ! (bin ! (load ! (from ! (stop !)) (look ! 44 refl)) (lit ! tt) (record { fits = scaled (at .0) }))
+        (from ! (stop !)) (init ! 38 refl (tt, record { fits = scaled (at .0) })) $
+        assigns ! (addr ! (from ! (hop ! (look ! 64 refl) (fld ! {d = 0} refl (stop !))))) (from ! (stop !)) (init ! 36 refl (tt, tt)) $
+        assigns ! (bin ! (load ! (from ! (stop !)) (look ! 36 refl)) (load ! (from ! (stop !)) (look ! 38 refl)) tt)
+        (from ! (stop !)) (init ! 34 refl (tt, tt)) $
         move ! (6 ∷ []) $ element 𝓤 H A W Row tt (struct-makes 𝓤 H A (shape P.the-type) P′.the-plain) row-vals
         (LL.tuple-tells P.the-type P′.the-laws) 64 b (o + 0) (rows-of (h .ports)) i row (parts .0) (at .0) (λ len row-is.
         let x-is = subst (λ (v : Row .Denot). Is Row v (row-vals v)) (List·getD-map (P.the-type .to) (h .ports) i freshPort) row-is in
         let x-typed = LL.lawful P.the-type P′.the-laws 𝓤 H A W .typed (x i) _ x-is .0 in
         rewrite ! 0 (λ (v : Row .Denot). ‵ (cellAt fullShare (Row .mir) (row-vals v) b (i * record-size + (o + 0))))
         (List·getD-map (P.the-type .to) (h .ports) i freshPort) refl $
-        -- [the record; the others; κ₄; κ₁; octets; ids; head; pool; the way back; the open borrow; obs; auth; _26, …, _0; channels; entries; reply; κ₂; κ₃; κ₅]
-        assigns ! (of-opd ! (load ! (from ! (hop ! (look ! 34 refl) (stop !))) (look-raw ! 0 refl))) (from ! (stop !)) (init ! 32 refl x-typed) $
-        assigns ! (of-opd ! (load ! (from ! (stop !)) (look ! 32 refl))) (from ! (stop !)) (init ! 42 refl x-typed) $
+        -- [the record; the others; κ₅; κ₂; octets; ids; head; pool; the way back; the open borrow; obs; auth; κ₁; _27, …, _0; channels; entries; reply; κ₃; κ₄;
+        -- κ₆]
+        assigns ! (of-opd ! (load ! (from ! (hop ! (look ! 35 refl) (stop !))) (look-raw ! 0 refl))) (from ! (stop !)) (init ! 33 refl x-typed) $
+        assigns ! (of-opd ! (load ! (from ! (stop !)) (look ! 33 refl))) (from ! (stop !)) (init ! 43 refl x-typed) $
         -- the maps are lent
         move ! (7 ∷ []) $ apart 𝓤 H A W [] (types-of Q.the-type) b (o + pool-at) (values-of Q.the-type Q′.the-laws (h .pool)) (
-        -- [accounting; charged; channel; owner; the pool's way back; the record; the others; κ₄; κ₁; octets; ids; head; the way back; the open borrow; obs;
-        -- auth; _26, …, _0; channels; entries; reply; κ₂; κ₃; κ₅]
-        assigns ! (addr ! (from ! (hop ! (look ! 66 refl) (fld ! {d = pool-at} refl (fld ! {d = 0} refl (stop !))))))
-        (from ! (stop !)) (init ! 34 refl (tt, tt)) $
-        assigns ! (addr ! (from ! (hop ! (look ! 66 refl) (fld ! {d = pool-at} refl (fld ! {d = channel-at} refl (stop !))))))
-        (from ! (stop !)) (init ! 32 refl (tt, tt)) $
-        assigns ! (addr ! (from ! (hop ! (look ! 66 refl) (fld ! {d = pool-at} refl (fld ! {d = charged-at} refl (stop !))))))
-        (from ! (stop !)) (init ! 30 refl (tt, tt)) $
-        assigns ! (addr ! (from ! (hop ! (look ! 66 refl) (fld ! {d = pool-at} refl (fld ! {d = accounting-at} refl (stop !))))))
-        (from ! (stop !)) (init ! 28 refl (tt, tt)) $
-        assigns ! (addr ! (from ! (fld ! refl (hop ! (look-in ! 54 (sub ! 0 refl (whole !))) (stop !))))) (from ! (stop !)) (init ! 26 refl (tt, tt)) $
-        assigns ! (agg ! (and-then ! (load ! (from ! (stop !)) (look ! 26 refl))
-        (and-then ! (load ! (from ! (fld ! refl (stop !))) (look-in ! 54 (sub ! 1 refl (whole !)))) (no-more !))))
-        (from ! (stop !)) (init ! 24 refl reply-typed) $
+        -- [accounting; charged; channel; owner; the pool's way back; the record; the others; κ₅; κ₂; octets; ids; head; the way back; the open borrow; obs;
+        -- auth; κ₁; _27, …, _0; channels; entries; reply; κ₃; κ₄; κ₆]
+        assigns ! (addr ! (from ! (hop ! (look ! 69 refl) (fld ! {d = pool-at} refl (fld ! {d = 0} refl (stop !))))))
+        (from ! (stop !)) (init ! 35 refl (tt, tt)) $
+        assigns ! (addr ! (from ! (hop ! (look ! 69 refl) (fld ! {d = pool-at} refl (fld ! {d = channel-at} refl (stop !))))))
+        (from ! (stop !)) (init ! 33 refl (tt, tt)) $
+        assigns ! (addr ! (from ! (hop ! (look ! 69 refl) (fld ! {d = pool-at} refl (fld ! {d = charged-at} refl (stop !))))))
+        (from ! (stop !)) (init ! 31 refl (tt, tt)) $
+        assigns ! (addr ! (from ! (hop ! (look ! 69 refl) (fld ! {d = pool-at} refl (fld ! {d = accounting-at} refl (stop !))))))
+        (from ! (stop !)) (init ! 29 refl (tt, tt)) $
+        assigns ! (addr ! (from ! (fld ! refl (hop ! (look-in ! 57 (sub ! 0 refl (whole !))) (stop !))))) (from ! (stop !)) (init ! 27 refl (tt, tt)) $
+        assigns ! (agg ! (and-then ! (load ! (from ! (stop !)) (look ! 27 refl))
+        (and-then ! (load ! (from ! (fld ! refl (stop !))) (look-in ! 57 (sub ! 1 refl (whole !)))) (no-more !))))
+        (from ! (stop !)) (init ! 25 refl reply-typed) $
         move ! (3 ∷ []) $ field-lent 𝓤 H A W u8 (uint-makes 𝓤 H A W w8) (uint-vals w8) (uint-tells w8) 512 b (o + pool-at + 0)
         tt (named 0) (h .pool .owner) (maps .0) (λ ν₀ δ₀.
-        -- [ν₀; lent owner; the lender of owner; accounting; charged; channel; the pool's way back; the record; the others; κ₄; κ₁; octets; ids; head;
-        -- the way back; the open borrow; obs; auth; _26, …, _0; channels; entries; reply; κ₂; κ₃; κ₅]
+        -- [ν₀; lent owner; the lender of owner; accounting; charged; channel; the pool's way back; the record; the others; κ₅; κ₂; octets; ids; head;
+        -- the way back; the open borrow; obs; auth; κ₁; _27, …, _0; channels; entries; reply; κ₃; κ₄; κ₆]
         move ! (5 ∷ []) $ field-lent 𝓤 H A W u8 (uint-makes 𝓤 H A W w8) (uint-vals w8) (uint-tells w8) 512 b (o + pool-at + channel-at)
         tt (named 1) (h .pool .channel) (maps .1 .0) (λ ν₁ δ₁.
-        -- [ν₁; lent channel; the lender of channel; ν₀; lent owner; the lender of owner; accounting; charged; the pool's way back; the record; the others; κ₄;
-        -- κ₁; octets; ids; head; the way back; the open borrow; obs; auth; _26, …, _0; channels; entries; reply; κ₂; κ₃; κ₅]
+        -- [ν₁; lent channel; the lender of channel; ν₀; lent owner; the lender of owner; accounting; charged; the pool's way back; the record; the others; κ₅;
+        -- κ₂; octets; ids; head; the way back; the open borrow; obs; auth; κ₁; _27, …, _0; channels; entries; reply; κ₃; κ₄; κ₆]
         move ! (7 ∷ []) $ field-lent 𝓤 H A W bool (bool-makes 𝓤 H A W) bool-vals bool-tells 512 b (o + pool-at + charged-at)
         tt (named 2) (h .pool .charged) (maps .1 .1 .0) (λ ν₂ δ₂.
         -- [ν₂; lent charged; the lender of charged; ν₁; lent channel; the lender of channel; ν₀; lent owner; the lender of owner; accounting;
-        -- the pool's way back; the record; the others; κ₄; κ₁; octets; ids; head; the way back; the open borrow; obs; auth; _26, …, _0; channels; entries;
-        -- reply; κ₂; κ₃; κ₅]
+        -- the pool's way back; the record; the others; κ₅; κ₂; octets; ids; head; the way back; the open borrow; obs; auth; κ₁; _27, …, _0; channels; entries;
+        -- reply; κ₃; κ₄; κ₆]
         move ! (9 ∷ []) $ field-lent 𝓤 H A W u8 (uint-makes 𝓤 H A W w8) (uint-vals w8) (uint-tells w8) 512 b (o + pool-at + accounting-at)
         tt (named 3) (h .pool .accounting) (maps .1 .1 .1 .0) (λ ν₃ δ₃.
         -- [ν₃; lent accounting; the lender of accounting; ν₂; lent charged; the lender of charged; ν₁; lent channel; the lender of channel; ν₀; lent owner;
-        -- the lender of owner; the pool's way back; the record; the others; κ₄; κ₁; octets; ids; head; the way back; the open borrow; obs; auth; _26, …, _0;
-        -- channels; entries; reply; κ₂; κ₃; κ₅]
+        -- the lender of owner; the pool's way back; the record; the others; κ₅; κ₂; octets; ids; head; the way back; the open borrow; obs; auth; κ₁;
+        -- _27, …, _0; channels; entries; reply; κ₃; κ₄; κ₆]
         let whole-is : Whole (h .pool) = record {
           owner = bare 𝓤 H A W u8 (uint-makes 𝓤 H A W w8) (uint-vals w8) (uint-tells w8) 512 (h .pool .owner) (maps .0) .1 .0 .1;
           channel = bare 𝓤 H A W u8 (uint-makes 𝓤 H A W w8) (uint-vals w8) (uint-tells w8) 512 (h .pool .channel) (maps .1 .0) .1 .0 .1;
           charged = bare 𝓤 H A W bool (bool-makes 𝓤 H A W) bool-vals bool-tells 512 (h .pool .charged) (maps .1 .1 .0) .1 .0 .1;
           accounting = bare 𝓤 H A W u8 (uint-makes 𝓤 H A W w8) (uint-vals w8) (uint-tells w8) 512 (h .pool .accounting) (maps .1 .1 .1 .0) .1 .0 .1;
         } in
-        move ! (9 ∷ 6 ∷ 3 ∷ 0 ∷ 16 ∷ 81 ∷ 82 ∷ 15 ∷ 83 ∷ 10 ∷ 7 ∷ 4 ∷ 1 ∷ 18 ∷ 78 ∷ 79 ∷ 17 ∷ 80 ∷ []) $ group ! 18 $
+        move ! (9 ∷ 6 ∷ 3 ∷ 0 ∷ 16 ∷ 84 ∷ 85 ∷ 15 ∷ 86 ∷ 10 ∷ 7 ∷ 4 ∷ 1 ∷ 18 ∷ 81 ∷ 82 ∷ 17 ∷ 83 ∷ []) $ group ! 18 $
         use1 W (raw (Calling 𝓤 H A at-mem run .pre (to-call ν₀ ν₁ ν₂ ν₃ δ₀ δ₁ δ₂ δ₃ i p)))
         (goes-call ν₀ ν₁ ν₂ ν₃ δ₀ δ₁ δ₂ δ₃ i p whole-is (at .0) p-eq (i-is .1) (parts .1 .1 .0) x-is (p-is .1) k-is) $
         -- [what `call_in` takes; the lender of accounting; the lender of charged; the lender of channel; the lender of owner; the pool's way back; the record;
-        -- the others; head; the way back; the open borrow; obs; auth; _26, …, _0]
+        -- the others; head; the way back; the open borrow; obs; auth; κ₁; _27, …, _0]
         calls-at ! fm (Calling 𝓤 H A at-mem run) calling (to-call ν₀ ν₁ ν₂ ν₃ δ₀ δ₁ δ₂ δ₃ i p)
-        (and-then ! (load ! (from ! (stop !)) (look ! 31 refl)) (and-then ! (load ! (from ! (stop !)) (look ! 29 refl))
-        (and-then ! (load ! (from ! (stop !)) (look ! 27 refl)) (and-then ! (load ! (from ! (stop !)) (look ! 25 refl))
-        (and-then ! (load ! (from ! (stop !)) (look ! 61 refl)) (and-then ! (load ! (from ! (stop !)) (look ! 59 refl))
-        (and-then ! (load ! (from ! (stop !)) (look ! 57 refl)) (and-then ! (load ! (from ! (stop !)) (look ! 45 refl))
-        (and-then ! (load ! (from ! (stop !)) (look ! 49 refl)) (and-then ! (load ! (from ! (stop !)) (look ! 43 refl))
-        (and-then ! (load ! (from ! (stop !)) (look ! 47 refl)) (and-then ! (load ! (from ! (stop !)) (look ! 55 refl))
-        (and-then ! (load ! (from ! (stop !)) (look ! 53 refl)) (and-then ! (load ! (from ! (stop !)) (look ! 21 refl)) (no-more !))))))))))))))) (λ v.
+        (and-then ! (load ! (from ! (stop !)) (look ! 32 refl)) (and-then ! (load ! (from ! (stop !)) (look ! 30 refl))
+        (and-then ! (load ! (from ! (stop !)) (look ! 28 refl)) (and-then ! (load ! (from ! (stop !)) (look ! 26 refl))
+        (and-then ! (load ! (from ! (stop !)) (look ! 62 refl)) (and-then ! (load ! (from ! (stop !)) (look ! 60 refl))
+        (and-then ! (load ! (from ! (stop !)) (look ! 58 refl)) (and-then ! (load ! (from ! (stop !)) (look ! 46 refl))
+        (and-then ! (load ! (from ! (stop !)) (look ! 50 refl)) (and-then ! (load ! (from ! (stop !)) (look ! 44 refl))
+        (and-then ! (load ! (from ! (stop !)) (look ! 48 refl)) (and-then ! (load ! (from ! (stop !)) (look ! 52 refl))
+        (and-then ! (load ! (from ! (stop !)) (look ! 56 refl)) (and-then ! (load ! (from ! (stop !)) (look ! 22 refl)) (no-more !))))))))))))))) (λ v.
         use1 W (later (some (λ (r : Effect). ((‵ (flft (ν₀ ∷ []) fullShare) ⊛ (‵ (flft (ν₁ ∷ []) fullShare) ⊛ (‵ (flft (ν₂ ∷ []) fullShare) ⊛
         (‵ (flft (ν₃ ∷ []) fullShare) ⊛ raw (toks 𝓤 A 5 κs qs))))) ⊛ ‵ (Ef.the-row .own r (v ∷ []))) ⊛
         raw (ensured 𝓤 H A call.ended (call.clauses 𝓤 H A at-mem run) (lfts ν₀ ν₁ ν₂ ν₃ δ₀ δ₁ δ₂ δ₃ i p)
@@ -529,68 +552,69 @@ module _ {M : Type 1} (𝓤 : URA M) (H : Heap 𝓤) (A : Atoms 𝓤) (W : Given
         fsplit ! $ fsplit ! $ move ! (1 ∷ 2 ∷ []) $ feqL ! (λ l. drop ! $
         -- [the last octets of the reply; the last accounting; the last charged; the last channel; the last owner; the tokens and what it gave;
         -- the lender of accounting; the lender of charged; the lender of channel; the lender of owner; the pool's way back; the record; the others; head;
-        -- the way back; the open borrow; obs; auth; _26, …, _0]
+        -- the way back; the open borrow; obs; auth; κ₁; _27, …, _0]
         move ! (5 ∷ []) $ split ! $ move ! (1 ∷ []) $
         facts ! Ef.the-row (Is Ef.the-row) (shows 𝓤 H A Ef.the-row) r (v ∷ []) (λ r-is.
         -- [the tokens; the last octets of the reply; the last accounting; the last charged; the last channel; the last owner; the lender of accounting;
         -- the lender of charged; the lender of channel; the lender of owner; the pool's way back; the record; the others; head; the way back; the open borrow;
-        -- obs; auth; _26, …, _0]
-        land ! (from ! (stop !)) (init ! 46 refl (LL.lawful Ef.the-type Ef′.the-laws 𝓤 H A W .typed r _ r-is .0)) $
-        rewrite ! 46 (λ (z : Val). ‵ (fat fullShare Ef′.mir l₁₂ 0 z)) (ap only (LL.tells Ef.the-type Ef′.the-laws r (v ∷ []) r-is)) refl $
+        -- obs; auth; κ₁; _27, …, _0]
+        land ! (from ! (stop !)) (init ! 47 refl (LL.lawful Ef.the-type Ef′.the-laws 𝓤 H A W .typed r _ r-is .0)) $
+        rewrite ! 47 (λ (z : Val). ‵ (fat fullShare Ef′.mir l₁₃ 0 z)) (ap only (LL.tells Ef.the-type Ef′.the-laws r (v ∷ []) r-is)) refl $
         let gave = LL.owed Ef.the-type Ef′.the-laws r (v ∷ []) r-is in
         let made-is = LL.owes R.the-type R′.the-laws (made r) (gave .0, (gave .1 .0, tt)) in
         split ! $ move ! (1 ∷ []) $ split ! $ move ! (1 ∷ []) $ split ! $ move ! (1 ∷ []) $ split ! $
-        -- [ν₃; κ₁ to κ₅; ν₂; ν₁; ν₀; the last octets of the reply; the last accounting; the last charged; the last channel; the last owner;
+        -- [ν₃; κ₂ to κ₆; ν₂; ν₁; ν₀; the last octets of the reply; the last accounting; the last charged; the last channel; the last owner;
         -- the lender of accounting; the lender of charged; the lender of channel; the lender of owner; the pool's way back; the record; the others; head;
-        -- the way back; the open borrow; obs; auth; _26, …, _0]
+        -- the way back; the open borrow; obs; auth; κ₁; _27, …, _0]
         move ! (0 ∷ 6 ∷ 10 ∷ []) $ field-returned 𝓤 H A W u8 (uint-makes 𝓤 H A W w8) (uint-vals w8) (uint-tells w8) 512 b (o + pool-at + accounting-at) tt ν₃ δ₃
         (zs .1 .1 .1 .0) (λ accounting-is.
-        -- [accounting; κ₁ to κ₅; ν₂; ν₁; ν₀; the last octets of the reply; the last charged; the last channel; the last owner; the lender of charged;
-        -- the lender of channel; the lender of owner; the pool's way back; the record; the others; head; the way back; the open borrow; obs; auth; _26, …, _0]
+        -- [accounting; κ₂ to κ₆; ν₂; ν₁; ν₀; the last octets of the reply; the last charged; the last channel; the last owner; the lender of charged;
+        -- the lender of channel; the lender of owner; the pool's way back; the record; the others; head; the way back; the open borrow; obs; auth; κ₁;
+        -- _27, …, _0]
         move ! (2 ∷ 6 ∷ 9 ∷ []) $ field-returned 𝓤 H A W bool (bool-makes 𝓤 H A W) bool-vals bool-tells 512 b (o + pool-at + charged-at) tt ν₂ δ₂
         (zs .1 .1 .0) (λ charged-is.
-        -- [charged; accounting; κ₁ to κ₅; ν₁; ν₀; the last octets of the reply; the last channel; the last owner; the lender of channel; the lender of owner;
-        -- the pool's way back; the record; the others; head; the way back; the open borrow; obs; auth; _26, …, _0]
+        -- [charged; accounting; κ₂ to κ₆; ν₁; ν₀; the last octets of the reply; the last channel; the last owner; the lender of channel; the lender of owner;
+        -- the pool's way back; the record; the others; head; the way back; the open borrow; obs; auth; κ₁; _27, …, _0]
         move ! (3 ∷ 6 ∷ 8 ∷ []) $ field-returned 𝓤 H A W u8 (uint-makes 𝓤 H A W w8) (uint-vals w8) (uint-tells w8) 512 b (o + pool-at + channel-at) tt ν₁ δ₁
         (zs .1 .0) (λ channel-is.
-        -- [channel; charged; accounting; κ₁ to κ₅; ν₀; the last octets of the reply; the last owner; the lender of owner; the pool's way back; the record;
-        -- the others; head; the way back; the open borrow; obs; auth; _26, …, _0]
+        -- [channel; charged; accounting; κ₂ to κ₆; ν₀; the last octets of the reply; the last owner; the lender of owner; the pool's way back; the record;
+        -- the others; head; the way back; the open borrow; obs; auth; κ₁; _27, …, _0]
         move ! (4 ∷ 6 ∷ 7 ∷ []) $ field-returned 𝓤 H A W u8 (uint-makes 𝓤 H A W w8) (uint-vals w8) (uint-tells w8) 512 b (o + pool-at + 0) tt ν₀ δ₀
         (zs .0) (λ owner-is.
-        -- [owner; channel; charged; accounting; κ₁ to κ₅; the last octets of the reply; the pool's way back; the record; the others; head; the way back;
-        -- the open borrow; obs; auth; _26, …, _0]
+        -- [owner; channel; charged; accounting; κ₂ to κ₆; the last octets of the reply; the pool's way back; the record; the others; head; the way back;
+        -- the open borrow; obs; auth; κ₁; _27, …, _0]
         move ! (3 ∷ 2 ∷ 1 ∷ 0 ∷ 6 ∷ []) $
         together 𝓤 H A W [] (types-of Q.the-type) b (o + pool-at) (values-of Q.the-type Q′.the-laws (pool-of zs)) (
-        -- [pool; κ₁ to κ₅; the last octets of the reply; the record; the others; head; the way back; the open borrow; obs; auth; _26, …, _0]
+        -- [pool; κ₂ to κ₆; the last octets of the reply; the record; the others; head; the way back; the open borrow; obs; auth; κ₁; _27, …, _0]
         -- the record is updated
-        assigns ! (bin ! (load ! (from ! (stop !)) (look ! 42 refl)) (lit ! tt) (record { fits = scaled (at .0) }))
-        (from ! (stop !)) (store ! 36 refl (tt, record { fits = scaled (at .0) })) $
-        assigns ! (addr ! (from ! (hop ! (look ! 60 refl) (fld ! {d = 0} refl (stop !))))) (from ! (stop !)) (init ! 14 refl (tt, tt)) $
-        assigns ! (bin ! (load ! (from ! (stop !)) (look ! 14 refl)) (load ! (from ! (stop !)) (look ! 36 refl)) tt)
-        (from ! (stop !)) (init ! 12 refl (tt, tt)) $
-        assigns ! (addr ! (from ! (hop ! (look ! 12 refl) (stop !)))) (from ! (stop !)) (init ! 10 refl (tt, tt)) $
+        assigns ! (bin ! (load ! (from ! (stop !)) (look ! 43 refl)) (lit ! tt) (record { fits = scaled (at .0) }))
+        (from ! (stop !)) (store ! 37 refl (tt, record { fits = scaled (at .0) })) $
+        assigns ! (addr ! (from ! (hop ! (look ! 63 refl) (fld ! {d = 0} refl (stop !))))) (from ! (stop !)) (init ! 15 refl (tt, tt)) $
+        assigns ! (bin ! (load ! (from ! (stop !)) (look ! 15 refl)) (load ! (from ! (stop !)) (look ! 37 refl)) tt)
+        (from ! (stop !)) (init ! 13 refl (tt, tt)) $
+        assigns ! (addr ! (from ! (hop ! (look ! 13 refl) (stop !)))) (from ! (stop !)) (init ! 11 refl (tt, tt)) $
         move ! (3 ∷ []) $ lent 𝓤 H A W P.the-row (LL.makes P.the-type P′.the-plain 𝓤 H A) (LL.vals P.the-type P′.the-laws)
         (LL.tells P.the-type P′.the-laws) b (i * record-size + (o + 0)) tt (named 0) (x i) x-is (λ ν δ.
         move ! (1 ∷ []) $ fsplit3 ! $ drop ! $ hands-on a-change changing 𝓤 H A W (ν ∷ []) fullShare b
         (i * record-size + (o + 0)) δ (x i) (r .change, tt) fm updating
         (EL.makes Ch.the-type Ch′.the-plain 𝓤 H A, tt) (gave .1 .1 .1 .0, tt)
-        -- [what `update` takes; its lender; pool; κ₁ to κ₅; the last octets of the reply; the others; head; the way back; the open borrow; obs; auth;
-        -- _26, …, _0]
-        (and-then ! (load ! (from ! (stop !)) (look ! 11 refl)) (and-then ! (load ! (from ! (fld ! refl (stop !))) (look-in ! 39 (sub ! 3 refl (whole !))))
+        -- [what `update` takes; its lender; pool; κ₂ to κ₆; the last octets of the reply; the others; head; the way back; the open borrow; obs; auth; κ₁;
+        -- _27, …, _0]
+        (and-then ! (load ! (from ! (stop !)) (look ! 12 refl)) (and-then ! (load ! (from ! (fld ! refl (stop !))) (look-in ! 40 (sub ! 3 refl (whole !))))
         (no-more !))) (
-        -- [the record's last value; ν; its lender; pool; κ₁ to κ₅; the last octets of the reply; the others; head; the way back; the open borrow; obs; auth;
-        -- _26, …, _0]
-        land ! (from ! (stop !)) (init ! 18 refl (tt, tt)) $
+        -- [the record's last value; ν; its lender; pool; κ₂ to κ₆; the last octets of the reply; the others; head; the way back; the open borrow; obs; auth;
+        -- κ₁; _27, …, _0]
+        land ! (from ! (stop !)) (init ! 19 refl (tt, tt)) $
         move ! (1 ∷ 0 ∷ 2 ∷ []) $
         returned 𝓤 H A W P.the-row (LL.makes P.the-type P′.the-plain 𝓤 H A) (LL.vals P.the-type P′.the-laws)
         (LL.tells P.the-type P′.the-laws) b (i * record-size + (o + 0)) tt ν δ (changedBy (r .change) (x i)) (λ z-is.
-        -- [the record; pool; κ₁ to κ₅; the last octets of the reply; the others; head; the way back; the open borrow; obs; auth; _26, …, _0]
-        assigns ! (of-opd ! (load ! (from ! (fld ! refl (stop !))) (look-in ! 38 (sub ! 2 refl (whole !)))))
-        (from ! (hop ! (look ! 60 refl) (fld ! {d = head-at} refl (stop !))))
+        -- [the record; pool; κ₂ to κ₆; the last octets of the reply; the others; head; the way back; the open borrow; obs; auth; κ₁; _27, …, _0]
+        assigns ! (of-opd ! (load ! (from ! (fld ! refl (stop !))) (look-in ! 39 (sub ! 2 refl (whole !)))))
+        (from ! (hop ! (look ! 63 refl) (fld ! {d = head-at} refl (stop !))))
         (store-raw ! 5 refl (LL.lawful Hd.the-type Hd′.the-laws 𝓤 H A W .typed (r .head) _ (gave .1 .1 .0) .0)) $
-        assigns ! (agg ! (and-then ! (load ! (from ! (fld ! refl (stop !))) (look-in ! 38 (sub ! 0 refl (whole !))))
-        (and-then ! (load ! (from ! (fld ! refl (stop !))) (look-in ! 38 (sub ! 1 refl (whole !)))) (no-more !))))
-        (from ! (stop !)) (init ! 62 refl (LL.lawful R.the-type R′.the-laws 𝓤 H A W .typed (made r) _ made-is .0)) $
+        assigns ! (agg ! (and-then ! (load ! (from ! (fld ! refl (stop !))) (look-in ! 39 (sub ! 0 refl (whole !))))
+        (and-then ! (load ! (from ! (fld ! refl (stop !))) (look-in ! 39 (sub ! 1 refl (whole !)))) (no-more !))))
+        (from ! (stop !)) (init ! 65 refl (LL.lawful R.the-type R′.the-laws 𝓤 H A W .typed (made r) _ made-is .0)) $
         move ! (0 ∷ 4 ∷ []) $ inside 𝓤 H A W Row tt (struct-makes 𝓤 H A (shape P.the-type) P′.the-plain) row-vals
         (LL.tuple-tells P.the-type P′.the-laws) 64 b (o + 0) (rows-of (h .ports)) i row len (at .0)
         (P.the-type .to (changedBy (r .change) (x i))) z-is (λ set-is.
@@ -598,29 +622,30 @@ module _ {M : Type 1} (𝓤 : URA M) (H : Heap 𝓤) (A : Atoms 𝓤) (W : Given
         (rows-set (h .ports) i (changedBy (r .change) (x i))) set-is in
         rewrite ! 0 (λ (vs : List (Row .Denot)). ‵ (cellAt fullShare (Array Row 64 .mir) (array-vals row-vals vs) b (o + 0)))
         (rows-set (h .ports) i (changedBy (r .change) (x i))) refl $
-        -- [ports; pool; κ₁ to κ₅; the last octets of the reply; head; the way back; the open borrow; obs; auth; _26, …, _0]
+        -- [ports; pool; κ₂ to κ₆; the last octets of the reply; head; the way back; the open borrow; obs; auth; κ₁; _27, …, _0]
         move ! (4 ∷ 1 ∷ 0 ∷ 5 ∷ []) $
         together 𝓤 H A W [] (types-of T.the-type) b o (values-of T.the-type T′.the-laws (changed i r zs)) (
         let pool-is = LL.owes Q.the-type Q′.the-laws (pool-of zs) (owner-is, (channel-is, (charged-is, (accounting-is, tt)))) in
         let core-is = LL.owes T.the-type T′.the-laws (changed i r zs) (ports-is, (pool-is, (gave .1 .1 .0, tt))) in
         owned ! T.the-row (Is T.the-row) (LL.makes T.the-type T′.the-plain 𝓤 H A) (changed i r zs) _ core-is $
-        -- [what it owns; the core; κ₁ to κ₅; the last octets of the reply; the open borrow; obs; auth; _26, …, _0]
+        -- [what it owns; the core; κ₂ to κ₆; the last octets of the reply; the open borrow; obs; auth; κ₁; _27, …, _0]
         move ! (1 ∷ 0 ∷ 4 ∷ 5 ∷ 6 ∷ []) $
         closes ! tt T.the-row (changed i r zs) (LL.vals T.the-type T′.the-laws (changed i r zs)) b o $
-        -- [obs; the borrow; its token; κ₁ to κ₅; the last octets of the reply; _26, …, _0]
-        returns ! (look ! 57 refl) $
-        forget ! 5 refl $ forget ! 7 refl $ forget ! 9 refl $ forget ! 11 refl $ forget ! 13 refl $ forget ! 15 refl $ forget ! 17 refl $ forget ! 19 refl $
-        forget ! 21 refl $ forget ! 23 refl $ forget ! 25 refl $ forget ! 27 refl $ forget ! 29 refl $ forget ! 31 refl $ forget ! 33 refl $ forget ! 35 refl $
-        forget ! 37 refl $ forget ! 39 refl $ forget ! 41 refl $ forget ! 43 refl $ forget ! 45 refl $ forget ! 47 refl $ forget ! 49 refl $ forget ! 51 refl $
-        forget ! 53 refl $ forget ! 55 refl $ forget ! 57 refl $
-        move ! (57 ∷ 58 ∷ []) $ free1 ! $ move ! (55 ∷ 56 ∷ []) $ free1 ! $ move ! (53 ∷ 54 ∷ []) $ free1 ! $ move ! (51 ∷ 52 ∷ []) $ free1 ! $
-        move ! (49 ∷ 50 ∷ []) $ free1 ! $ move ! (47 ∷ 48 ∷ []) $ free1 ! $ move ! (45 ∷ 46 ∷ []) $ free1 ! $ move ! (43 ∷ 44 ∷ []) $ free1 ! $
-        move ! (41 ∷ 42 ∷ []) $ free1 ! $ move ! (39 ∷ 40 ∷ []) $ free1 ! $ move ! (37 ∷ 38 ∷ []) $ free1 ! $ move ! (35 ∷ 36 ∷ []) $ free1 ! $
-        move ! (33 ∷ 34 ∷ []) $ free1 ! $ move ! (31 ∷ 32 ∷ []) $ free1 ! $ move ! (29 ∷ 30 ∷ []) $ free1 ! $ move ! (27 ∷ 28 ∷ []) $ free1 ! $
-        move ! (25 ∷ 26 ∷ []) $ free1 ! $ move ! (23 ∷ 24 ∷ []) $ free1 ! $ move ! (21 ∷ 22 ∷ []) $ free1 ! $ move ! (19 ∷ 20 ∷ []) $ free1 ! $
-        move ! (17 ∷ 18 ∷ []) $ free1 ! $ move ! (15 ∷ 16 ∷ []) $ free1 ! $ move ! (13 ∷ 14 ∷ []) $ free1 ! $ move ! (11 ∷ 12 ∷ []) $ free1 ! $
-        move ! (9 ∷ 10 ∷ []) $ free1 ! $ move ! (7 ∷ 8 ∷ []) $ free1 ! $ move ! (5 ∷ 6 ∷ []) $ free1 ! $ free0 ! $
-        by ! (exits i r zs made-is (answers i p r zs (at .1) e) l)))))))))))))))))))))))))))))))))))))))))))))))))))))))))))))))
+        -- [obs; the borrow; its token; κ₂ to κ₆; the last octets of the reply; κ₁; _27, …, _0]
+        returns ! (look ! 60 refl) $
+        forget ! 6 refl $ forget ! 8 refl $ forget ! 10 refl $ forget ! 12 refl $ forget ! 14 refl $ forget ! 16 refl $ forget ! 18 refl $ forget ! 20 refl $
+        forget ! 22 refl $ forget ! 24 refl $ forget ! 26 refl $ forget ! 28 refl $ forget ! 30 refl $ forget ! 32 refl $ forget ! 34 refl $ forget ! 36 refl $
+        forget ! 38 refl $ forget ! 40 refl $ forget ! 42 refl $ forget ! 44 refl $ forget ! 46 refl $ forget ! 48 refl $ forget ! 50 refl $ forget ! 52 refl $
+        forget ! 54 refl $ forget ! 56 refl $ forget ! 58 refl $ forget ! 60 refl $
+        move ! (60 ∷ 61 ∷ []) $ free1 ! $ move ! (58 ∷ 59 ∷ []) $ free1 ! $ move ! (56 ∷ 57 ∷ []) $ free1 ! $ move ! (54 ∷ 55 ∷ []) $ free1 ! $
+        move ! (52 ∷ 53 ∷ []) $ free1 ! $ move ! (50 ∷ 51 ∷ []) $ free1 ! $ move ! (48 ∷ 49 ∷ []) $ free1 ! $ move ! (46 ∷ 47 ∷ []) $ free1 ! $
+        move ! (44 ∷ 45 ∷ []) $ free1 ! $ move ! (42 ∷ 43 ∷ []) $ free1 ! $ move ! (40 ∷ 41 ∷ []) $ free1 ! $ move ! (38 ∷ 39 ∷ []) $ free1 ! $
+        move ! (36 ∷ 37 ∷ []) $ free1 ! $ move ! (34 ∷ 35 ∷ []) $ free1 ! $ move ! (32 ∷ 33 ∷ []) $ free1 ! $ move ! (30 ∷ 31 ∷ []) $ free1 ! $
+        move ! (28 ∷ 29 ∷ []) $ free1 ! $ move ! (26 ∷ 27 ∷ []) $ free1 ! $ move ! (24 ∷ 25 ∷ []) $ free1 ! $ move ! (22 ∷ 23 ∷ []) $ free1 ! $
+        move ! (20 ∷ 21 ∷ []) $ free1 ! $ move ! (18 ∷ 19 ∷ []) $ free1 ! $ move ! (16 ∷ 17 ∷ []) $ free1 ! $ move ! (14 ∷ 15 ∷ []) $ free1 ! $
+        move ! (12 ∷ 13 ∷ []) $ free1 ! $ move ! (10 ∷ 11 ∷ []) $ free1 ! $ move ! (8 ∷ 9 ∷ []) $ free1 ! $ move ! (6 ∷ 7 ∷ []) $ free1 ! $ free0 ! $
+        move ! (0 ∷ 1 ∷ 2 ∷ 5 ∷ 3 ∷ 4 ∷ []) $
+        by ! (exits i r zs made-is (answers i p r zs (at .1) e) l))))))))))))))))))))))))))))))))))))))))))))))))))))))))))))))))))
 
 module _ {M : Type 1} (𝓤 : URA M) (H : Heap 𝓤) (A : Atoms 𝓤) (W : Given 𝓤 H A) (at-mem : Memory → SProp 𝓤) (run : Routine → Fun 𝓤) where
   walks : (C : Calls 𝓤 H) (Λ : Loops 𝓤 H) → FmC 𝓤 H (W .laws) C
@@ -629,21 +654,21 @@ module _ {M : Type 1} (𝓤 : URA M) (H : Heap 𝓤) (A : Atoms 𝓤) (W : Given
       → Walks 𝓤 H A f.ended stayed (WpFn 𝓤 H C Λ code.function) (f.clauses 𝓤 H A at-mem run)
   walks C Λ fm finding slotting calling updating =
       walked 𝓤 H A f.ended stayed (f.clauses 𝓤 H A at-mem run) (WpFn 𝓤 H C Λ code.function)
-      (λ κs. (ptr-vals, (ptr-vals, (ptr-vals, (ptr-vals, (LL.vals K.the-type K′.the-laws, (slice-vals, (slice-vals, tt))))))))
-      (λ κs. (mut-tells (named 0) (κs .0) T.the-row, (shr-tells (named 1) (κs .1 .0) (Array u8 4096), (shr-tells (named 2) (κs .1 .1 .0) (Array u32 2816), (shr-tells (named 3) (κs .1 .1 .1 .0) (Array u32 1536), (LL.tells K.the-type K′.the-laws, (shr-slice-tells (named 4) (κs .1 .1 .1 .1 .0) u8, (mut-slice-tells (named 5) (κs .1 .1 .1 .1 .1 .0) u8, tt))))))))
+      (λ κs. (ptr-vals, (ptr-vals, (ptr-vals, (ptr-vals, (ptr-vals, (slice-vals, (slice-vals, tt))))))))
+      (λ κs. (mut-tells (named 0) (κs .0) T.the-row, (shr-tells (named 1) (κs .1 .0) K.the-row, (shr-tells (named 2) (κs .1 .1 .0) (Array u8 4096), (shr-tells (named 3) (κs .1 .1 .1 .0) (Array u32 2816), (shr-tells (named 4) (κs .1 .1 .1 .1 .0) (Array u32 1536), (shr-slice-tells (named 5) (κs .1 .1 .1 .1 .1 .0) u8, (mut-slice-tells (named 6) (κs .1 .1 .1 .1 .1 .1 .0) u8, tt))))))))
       (λ κs qs bounds a _ are. via 𝓤 _ (fst∗ 𝓤 _ (emp 𝓤))
-      (walk 𝓤 H A W at-mem run (κs .0) (κs .1 .0) (κs .1 .1 .0) (κs .1 .1 .1 .0) (κs .1 .1 .1 .1 .0) (κs .1 .1 .1 .1 .1 .0)
-      (qs .0) (qs .1 .0) (qs .1 .1 .0) (qs .1 .1 .1 .0) (qs .1 .1 .1 .1 .0) (qs .1 .1 .1 .1 .1 .0)
+      (walk 𝓤 H A W at-mem run (κs .0) (κs .1 .0) (κs .1 .1 .0) (κs .1 .1 .1 .0) (κs .1 .1 .1 .1 .0) (κs .1 .1 .1 .1 .1 .0) (κs .1 .1 .1 .1 .1 .1 .0)
+      (qs .0) (qs .1 .0) (qs .1 .1 .0) (qs .1 .1 .1 .0) (qs .1 .1 .1 .1 .0) (qs .1 .1 .1 .1 .1 .0) (qs .1 .1 .1 .1 .1 .1 .0)
       (a .0 .ptr .0) (a .0 .ptr .1) (a .0 .name) (a .0 .now)
       (a .1 .0) (a .1 .1 .0) (a .1 .1 .1 .0) (a .1 .1 .1 .1 .0) (a .1 .1 .1 .1 .1 .0) (a .1 .1 .1 .1 .1 .1 .0)
-      C Λ fm finding slotting calling updating (are .1 .1 .1 .1 .0) (are .1 .1 .1 .1 .1 .0) (are .1 .1 .1 .1 .1 .1 .0)))
+      C Λ fm finding slotting calling updating (are .1 .1 .1 .1 .1 .0) (are .1 .1 .1 .1 .1 .1 .0)))
 
-  dropped : (s : Slot 6) → Silent 𝓤 H A W 6 s yes → Goes 𝓤 H A W 6 s yes (stay-dropped s yes)
-  dropped s = goes-dropped 𝓤 H A W 6 s yes
+  dropped : (s : Slot 7) → Silent 𝓤 H A W 7 s yes → Goes 𝓤 H A W 7 s yes (stay-dropped s yes)
+  dropped s = goes-dropped 𝓤 H A W 7 s yes
 
-  goes : AllGo 𝓤 H A W 6 (f.signature .params) (f.ended .kept) stayed
+  goes : AllGo 𝓤 H A W 7 (f.signature .params) (f.ended .kept) stayed
   goes =
-      (goes-ref 𝓤 H A W 6 0 tt (plain (λ _. T.the-row)), (dropped Ids (λ κs x w. refl), (dropped Channels (λ κs x w. refl), (dropped Entries (λ κs x w. refl), (dropped Arguments (λ κs x w. refl), (dropped Octets (λ κs x w. refl), (goes-gave-slice 𝓤 H A W 6 5 tt (plain (λ _. u8)), tt)))))))
+      (goes-ref 𝓤 H A W 7 0 tt (plain (λ _. T.the-row)), (dropped Arguments (λ κs x w. refl), (dropped Ids (λ κs x w. refl), (dropped Channels (λ κs x w. refl), (dropped Entries (λ κs x w. refl), (dropped Octets (λ κs x w. refl), (goes-gave-slice 𝓤 H A W 7 6 tt (plain (λ _. u8)), tt)))))))
 
   meets : (𝓣 : Tables 𝓤 H)
       → Triple 𝓤 (𝓣 .C port-def.name) (Finding 𝓤 H A at-mem run) → Triple 𝓤 (𝓣 .C slot-def.name) (Slotting 𝓤 H A at-mem run)
