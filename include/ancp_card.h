@@ -122,9 +122,9 @@ uint32_t ancp_card_next_in(ancp_core core);
 
 /* ---- for the host. Each call updates *card and returns its number; `length` gets how many octets of reply are written, and beyond them the
    buffer is kept. Numbers 1 and 3 to 16 keep card and buffer. */
-static inline uint8_t ancp_calls(ancp_card *card, const ancp_tables *t, ancp_call call, const uint8_t *octets, size_t n, uint8_t *reply, size_t room,
+static inline uint8_t ancp_calls(ancp_card *card, const ancp_tables *t, const ancp_call *call, const uint8_t *octets, size_t n, uint8_t *reply, size_t room,
                                  size_t *length) {
-    ancp_answer a = ancp_card_call(&card->core, &call, t->ids, t->channels, t->entries, octets, n, reply, room);
+    ancp_answer a = ancp_card_call(&card->core, call, t->ids, t->channels, t->entries, octets, n, reply, room);
     if (length) *length = a.length;
     return a.number;
 }
@@ -132,7 +132,7 @@ static inline uint8_t ancp_calls(ancp_card *card, const ancp_tables *t, ancp_cal
 /* a call without a message, and one without a reply either */
 static inline uint8_t ancp_replies(ancp_card *card, const ancp_tables *t, ancp_call call, uint8_t *reply, size_t room, size_t *length) {
     uint8_t none = 0;
-    return ancp_calls(card, t, call, &none, 0, reply, room, length);
+    return ancp_calls(card, t, &call, &none, 0, reply, room, length);
 }
 static inline uint8_t ancp_silent(ancp_card *card, const ancp_tables *t, ancp_call call) {
     uint8_t none = 0;
@@ -188,7 +188,8 @@ static inline uint8_t ancp_card_ask(ancp_card *card, const ancp_tables *t, size_
 
 /* A message from the server is carried out, and its answer, if one is due, is written. */
 static inline uint8_t ancp_card_message(ancp_card *card, const ancp_tables *t, const uint8_t *octets, size_t n, uint8_t *reply, size_t room, size_t *length) {
-    return ancp_calls(card, t, ancp_call_of(ANCP_CALL_MESSAGE, 0, 0, 0), octets, n, reply, room, length);
+    static const ancp_call message = {ANCP_CALL_MESSAGE, 0, 0, 0, {0, 0, {0, 0, 0, 0}, {0, 0, 0, 0}}};
+    return ancp_calls(card, t, &message, octets, n, reply, room, length);
 }
 
 /* What a host may read. Of a number that is no port's: down, 0, no flows. */

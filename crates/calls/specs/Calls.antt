@@ -42,11 +42,13 @@ hosted n c room =
 unfoldable pub callOf : HostCall → List ℕ → ℕ → Call
 callOf c octets room = cond (ltb (c .which) 6) (hosted (c .which) c room) (message octets room)
 
--- the port whose record a call may read and change: the host's number, or that of the port which a usable message's Target names
+-- the port whose record a call may read and change: the host's number, or that of the port which a usable message's
+-- Target names
 unfoldable pub portAbout : List ℕ → ℕ → HostCall → List ℕ → ℕ
 portAbout ids count c octets = cond (ltb (c .which) 6) (c .port) (namedIn ids count octets)
 
--- what a call on a core by value gives that came to o, and what it leaves in the areas and in the buffer that it is lent
+-- what a call on a core by value gives that came to o, and what it leaves in the areas and in the buffer that it is
+-- lent
 pub record CallGives (o : Outcome) (r : Returned) (areas : Areas) (before after : List ℕ) : Type 0 where
   pub core : r .core ≡ coreOf (o .card)
   pub number : r .number ≡ o .number

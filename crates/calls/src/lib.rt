@@ -19,11 +19,17 @@ ghost use Rattle.calls.specs.Calls.{tablesOf, hosted, callOf, portAbout,
 
 // The numbers of the calls; those of the host go from 0 on, and every number behind them is a message.
 pub const PORT_UP: u8 = 0;
+
 pub const PORT_DOWN: u8 = 1;
+
 pub const SET_DELEGATION: u8 = 2;
+
 pub const JOIN: u8 = 3;
+
 pub const LEAVE: u8 = 4;
+
 pub const ASK: u8 = 5;
+
 pub const MESSAGE: u8 = 255;
 
 // Which call, with its arguments. `amount` is the delegation that is set, or what is required when the host asks.
@@ -112,8 +118,9 @@ pub fn call(
     card::done_with(core, at, pool, r)
 }
 
-// The port whose record a call may read and change: the host's number, or that of the port which a usable message's Target names. 64 where there is
-// none, as of a call that is about no port or about several: what it reads of them stands in the head, the maps or the areas.
+// The port whose record a call may read and change: the host's number, or that of the port which a usable message's
+// Target names. 64 where there is none, as of a call that is about no port or about several: what it reads of them
+// stands in the head, the maps or the areas.
 pub fn port_of(ids: &[u8; 4096], port_count: usize, call: HostCall, octets: &[u8]) -> usize
     ensures { λ r. ⌜ r ≡ portAbout (now (ids .entry)) «port_count» call (now (octets .entry)) ⌝ }
 {
@@ -173,7 +180,8 @@ pub fn call_in(
     )
 }
 
-// The calls that are no message. Each makes its terms for itself, so that the compiler keeps of the head and the record what it needs.
+// The calls that are no message. Each makes its terms for itself, so that the compiler keeps of the head and the record
+// what it needs.
 fn host_in(
     owner: &mut [u8; 512],
     channel: &mut [u8; 512],
@@ -199,7 +207,15 @@ fn host_in(
         return card::port_down_in(owner, Terms { at, head, x }, p);
     }
     if call.which == SET_DELEGATION {
-        return card::set_delegation_in(owner, channel, charged, channels, Terms { at, head, x }, p, call.amount);
+        return card::set_delegation_in(
+            owner,
+            channel,
+            charged,
+            channels,
+            Terms { at, head, x },
+            p,
+            call.amount,
+        );
     }
     if call.which == JOIN {
         return joins::join_in(
@@ -217,7 +233,21 @@ fn host_in(
         );
     }
     if call.which == LEAVE {
-        return card::leave_in(owner, channel, channels, Terms { at, head, x }, p, call.flow);
+        return card::leave_in(
+            owner,
+            channel,
+            channels,
+            Terms { at, head, x },
+            p,
+            call.flow,
+        );
     }
-    joins::ask_in(ids, Terms { at, head, x }, p, call.amount, call.preferred, reply)
+    joins::ask_in(
+        ids,
+        Terms { at, head, x },
+        p,
+        call.amount,
+        call.preferred,
+        reply,
+    )
 }

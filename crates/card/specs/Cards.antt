@@ -1,5 +1,6 @@
--- The card as the definitions speak of it: what the host keeps for it (`Core`), and what stands in the areas that it lends. Its parts, and the
--- card with one part changed. Assumes nothing: these are definitions.
+-- The card as the definitions speak of it: what a host keeps in one struct (`Core`: ports, pool, head), and what stands
+-- in the areas that it lends beside it. Its parts, and the card with one part changed. Assumes nothing: these are
+-- definitions.
 use Prim.Native.Nat.{ℕ}
 use mathlib.Core.Bool.{Bool}
 use mathlib.Core.List.{List, [], _∷_}
@@ -13,11 +14,11 @@ use Rattle.pool.specs.declared.Pool.{Pool}
 use Rattle.card.specs.declared.CardHead.{CardHead}
 use Rattle.card.specs.declared.Core.{Core}
 
--- what the host lends with each call beside the core
+-- the areas: a list for each array that a host lends with every call beside the core. There is none yet
 pub record Areas : Type 0 where
 
 abbrev pub noAreas : Areas
-noAreas = record { }
+noAreas = record {}
 
 pub record Card : Type 0 where
   pub ports : List Port
@@ -25,7 +26,7 @@ pub record Card : Type 0 where
   pub head : CardHead
   pub areas : Areas
 
--- what the host keeps of a card beside the areas, and the card of the two
+-- the core of a card, and the card of a core and areas
 abbrev pub coreOf : Card → Core
 coreOf card = record { ports = card .ports; pool = card .pool; head = card .head }
 

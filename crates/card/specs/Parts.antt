@@ -1,5 +1,5 @@
--- A call on the parts of a card: the pool's maps are lent, and what else it asks for stands in its terms, so that the card is not copied.
--- Assumes nothing: these are definitions.
+-- A call on the parts of a card: the pool's maps and the areas are lent, and what else it asks for stands in its terms,
+-- so that the card is not copied. Assumes nothing: these are definitions.
 use Prim.Native.Nat.{ℕ, _<_}
 use mathlib.Core.Path.{_≡_}
 use mathlib.Core.List.{List}
@@ -21,7 +21,8 @@ termsOf at head x = record { at = at; head = head; x = x }
 abbrev pub termsAt : Card → ℕ → Terms
 termsAt card at = termsOf at (card .head) (portAt card at)
 
--- these are the card's terms, and the place is port p's where p is below 64
+-- these are the card's terms, and the place is port p's where p is below 64; of a call about no port or about several,
+-- p is 64 or more
 pub record HasTerms (card : Card) (p : ℕ) (terms : Terms) : Type 0 where
   pub same : termsAt card (terms .at) ≡ terms
   pub place : p < 64 → terms .at ≡ p
@@ -39,7 +40,7 @@ doneWith card at pool r =
       length = r .length;
     }
 
--- what of it the host keeps beside the words
+-- what of it a call by value returns
 abbrev pub returnedOf : Done → Returned
 returnedOf d = record { core = coreOf (d .card); number = d .number; length = d .length }
 

@@ -33,7 +33,7 @@ freshCore ports channels entries white add first =
       };
     }
 
--- the areas begin as zeros
+-- what the areas hold at first
 unfoldable pub freshAreas : Areas
 freshAreas = noAreas
 

@@ -16,7 +16,8 @@ ghost use Rattle.card.specs.Parts.{doneWith, returnedOf, ComesTo};
 ghost use Rattle.card.specs.Start.{freshCore, firstOk, startOf, StartGives};
 ghost use Rattle.card.specs.Figures.{upOf, delegationOf, committedAt};
 
-// What a call asks of the card that is neither a port's nor a record's.
+// The head: all that is neither a port's nor a flow record's. It goes through every call whole, so that a number more
+// in it touches no function that hands it on.
 #[repr(C)]
 pub struct CardHead {
     pub port_count: usize,
@@ -27,7 +28,8 @@ pub struct CardHead {
     pub add_cac: bool,
 }
 
-// What the host keeps for the card beside the words that it lends; the start's tables are lent with each call that needs them.
+// What the host keeps of a card in one struct. Large state is lent beside it, an array each (the definitions' `Areas`:
+// none yet), and so are the start's tables, with each call that needs them.
 #[repr(C)]
 pub struct Core {
     pub ports: [Port; 64],
@@ -35,7 +37,8 @@ pub struct Core {
     pub head: CardHead,
 }
 
-// What comes back from a call: the number of 01's table, and how many octets of reply are written.
+// What a call on a core by value returns: the core behind it, the number of 01's table, and how many octets of reply
+// are written.
 #[repr(C)]
 pub struct Returned {
     pub core: Core,
@@ -43,7 +46,9 @@ pub struct Returned {
     pub length: usize,
 }
 
-// What a call asks of the card besides the pool's maps: x is the record of the port that it is about, which lies at `at` in the table.
+// What a call asks of the card besides the pool's maps and the areas: the head, and of a call about one port that
+// port's record x, which lies at `at` in the table. A call about no port or about several does not look at x, and keeps
+// it.
 #[repr(C)]
 pub struct Terms {
     pub at: usize,
@@ -51,8 +56,8 @@ pub struct Terms {
     pub x: Port,
 }
 
-// What a call on lent maps gives: the number of 01's table, how many octets of reply are written, the head behind it, and what becomes of
-// the port's record.
+// What a call on lent maps gives: the number of 01's table, how many octets of reply are written, the head behind it,
+// and what becomes of the port's record.
 #[repr(C)]
 pub struct Effect {
     pub number: u8,
@@ -61,6 +66,7 @@ pub struct Effect {
     pub change: Change,
 }
 
+// What a start gives: a core, and its number.
 #[repr(C)]
 pub struct Fresh {
     pub core: Core,

@@ -122,7 +122,11 @@ fn fill(core: Core, t: Tables, p: usize, n: usize) -> Core {
 
 fn opened(core: Core, t: Tables, p: usize, amount: u32) -> Core {
     let up = done(core, t, calls::on_port(calls::PORT_UP, p, 0, 0));
-    let d = done(up.core, t, calls::on_port(calls::SET_DELEGATION, p, amount, 0));
+    let d = done(
+        up.core,
+        t,
+        calls::on_port(calls::SET_DELEGATION, p, amount, 0),
+    );
     d.core
 }
 
@@ -187,7 +191,12 @@ fn admission(t: Tables) {
     };
     c = leave(b"leave of a bad address", c, t, 0, bad);
     figures(c, t, 0);
-    c = said(b"port down", c, t, calls::on_port(calls::PORT_DOWN, 0, 0, 0));
+    c = said(
+        b"port down",
+        c,
+        t,
+        calls::on_port(calls::PORT_DOWN, 0, 0, 0),
+    );
     c = said(b"port up", c, t, calls::on_port(calls::PORT_UP, 0, 0, 0));
     figures(c, t, 0);
 }

@@ -17,8 +17,8 @@ pub fn id_at<'a>(ids: &'a [u8; 4096], p: u8) -> &'a [u8]
     id_in(ids, p)
 }
 
-// The port that a circuit id names. An id of 1 to 63 octets is compared only with rows that have its octet k there: first
-// its last, then the one in which the row before differed, since ids may begin alike and end alike.
+// The port that a circuit id names. An id of 1 to 63 octets is compared only with rows that have its octet k there:
+// first its last, then the one in which the row before differed, since ids may begin alike and end alike.
 pub fn port_of(ids: &[u8; 4096], n: usize, id: &[u8]) -> Found
     ensures { λ r. ⌜ r ≡ portOf (now (ids .entry)) n (now (id .entry)) ⌝ }
 {
@@ -84,7 +84,8 @@ fn passed_over(ids: &[u8; 4096], rows: usize, k: usize, octet: u8, from: usize) 
     p
 }
 
-// None of the n rows from `at` on has this octet k. There is no early end, so that the compiler writes out all n compares.
+// None of the n rows from `at` on has this octet k. There is no early end, so that the compiler writes out all n
+// compares.
 fn none_of(ids: &[u8; 4096], at: usize, k: usize, octet: u8, n: usize) -> bool
     requires { ⌜ (at + n ≤ 64) × (k < 64) ⌝ }
     ensures { λ r. ⌜ r ≡ noneOf n (λ i. eqb (idOctet (now (ids .entry)) k (at + i)) octet) ⌝ }
@@ -109,7 +110,8 @@ pub fn same_octets(a: &[u8], b: &[u8]) -> bool
     differing(a, b) < 1
 }
 
-// The last octet of b, counted from 1, that a does not have there; its last where a is longer or shorter, and 0 where they are the same.
+// The last octet of b, counted from 1, that a does not have there; its last where a is longer or shorter, and 0 where
+// they are the same.
 fn differing(a: &[u8], b: &[u8]) -> usize
     requires { ⌜ 0 < length (now b) ⌝ }
     ensures { λ r. ⌜ (r ≤ length (now (b .entry))) × (ltb r 1 ≡ same (now (a .entry)) (now (b .entry))) ⌝ }

@@ -1,4 +1,5 @@
--- What a call comes to on any card: the ends that there are (`Way`), and those of each call (`up-way`, ..). Assumes nothing.
+-- What a call comes to on any card: the ends that there are (`Way`), and those of each call (`up-way`, ..). Assumes
+-- nothing.
 use Prim.Native.Nat.{ℕ}
 use mathlib.Core.Path.{_≡_, refl}
 use mathlib.Core.Bool.{Bool, true, false, cond}

@@ -92,7 +92,8 @@ unfoldable pub history : Build → Tables → Card → List Call → List Seen
 history b t card [] = []
 history b t card (x ∷ xs) = seen b t card x ∷ history b t (b .outcome t card x .card) xs
 
--- ---- what some statements single out: a join, the host's asking, a message; and any other call, by the port that it is about, if it is about one
+-- ---- what some statements single out
+-- a join, the host asking, a message; and any other call, by the port that it is about, if it is about one
 unfoldable pub byCall {ℓ} : {A : Type ℓ} → (ℕ → Flow → ℕ → A) → (ℕ → A) → (List ℕ → ℕ → A) → (Found → A) → Call → A
 byCall joins asks told other (join p f room) = joins p f room
 byCall joins asks told other (ask p required preferred room) = asks p

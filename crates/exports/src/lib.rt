@@ -1,8 +1,8 @@
 // The card for a host in C. The start gives a card; one function carries out any call on the card where the host keeps it; the readers take
 // the card by value. include/ancp_card.h puts a name for each call above them.
 use calls::HostCall;
-use card::Fresh;
 use card::Core;
+use card::Fresh;
 use flows::Flow;
 use pool::Rows;
 ghost use mathlib.Core.Path.{_≡_};
@@ -56,8 +56,8 @@ pub struct Answer {
     pub length: usize,
 }
 
-// Any call, on the card where the host keeps it. Of the card the pool's maps are lent, and the record of the port that the call is about is
-// updated where it is stored; the rest of what a call needs is copied into its terms.
+// Any call, on the core where the host keeps it. Of the core the pool's maps are lent, and the record of the port that
+// the call is about is updated where it is stored; that record and the head are copied.
 #[no_mangle]
 pub extern "C" fn ancp_card_call(
     core: &mut Core,

@@ -68,8 +68,8 @@ receivedOf ids channels card m room =
     cond (ltb room 4608) (keeps card 13)
     (cond (sizeOk m) (byHead ids channels card m (headIn m)) (keeps card 15))
 
--- the one port whose record and flows a message can change: the one that its Target names, or 64 where it is no port's; 65 of a message whose size or
--- header is wrong
+-- the one port whose record and flows a message can change: the one that its Target names, or 64 where it is no port's;
+-- 65 of a message whose size or header is wrong
 unfoldable pub namedBy : List ℕ → ℕ → List ℕ → Head → ℕ
 namedBy ids count m Unusable = 65
 namedBy ids count m (Usable h) = portNamed ids count (drop 16 m)

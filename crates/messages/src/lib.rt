@@ -18,7 +18,8 @@ ghost use Rattle.card.specs.Parts.{ComesTo};
 ghost use Rattle.checks.specs.Table.{portNamed, tableOf};
 ghost use Rattle.messages.specs.Messages.{isAnswer, isNotice, byType, requested, refusedNumber, offered, byResult, receivedOf, namedIn};
 
-// The port that a message's Target names, or 64; 65 where size or header is wrong, and then nothing behind the header is looked at.
+// The port that a message's Target names, or 64; 65 where size or header is wrong, and then nothing behind the header
+// is looked at.
 pub fn port_named(ids: &[u8; 4096], port_count: usize, octets: &[u8]) -> usize
     ensures { λ r. ⌜ r ≡ namedIn (now (ids .entry)) «port_count» (now (octets .entry)) ⌝ }
 {

@@ -36,7 +36,15 @@ fn main() {
     let a = calls::call(s.core, &ids, &channels, &entries, up, &none, &mut reply);
     let b = calls::call(a.core, &ids, &channels, &entries, set, &none, &mut reply);
     let n = io::read_full(0, &mut octets);
-    let done = calls::call(b.core, &ids, &channels, &entries, told, &octets[..n], &mut reply);
+    let done = calls::call(
+        b.core,
+        &ids,
+        &channels,
+        &entries,
+        told,
+        &octets[..n],
+        &mut reply,
+    );
     let length = done.length;
     io::write_all(1, b"answer=");
     io::print_decimal(1, done.number as u64);

@@ -53,11 +53,12 @@ part-by-result-start c = omega (arith, size-least (c .before .before .before .be
 by-result-requires : tie.Need-by-result-requires
 by-result-requires c κs =
     let a = c .before .before .before .before .before .before .before .before .before .before .before .args in
-    let r = right (c .before .before .before .before .before .before .before) in
-    (
+    let r = right (c .before .before .before .before .before .before .before) in (
       c .before .before .before .before .before .before .before .before .before .before .before .pre .0,
-      ((omega (arith, c .before .before .before .before .before .before .before .before .if1 .left), omega (arith, ap length (rest-part 16 (a .octets .now)), rest-short (a .octets .now) (r .0))),
-      (c .before .before .before .before .before .before .before .before .before .before .before .pre .1, c .before .before .before .before .before .before .before .before .before .before .before .pre .2 ∙ sym (named-usable (a .ids .now) (a .terms .head .«port_count») (a .octets .now) (r .0) (r .1)) ∙ ap (portNamed (a .ids .now) (a .terms .head .«port_count»)) (sym (rest-part 16 (a .octets .now))))),
+      (
+        (omega (arith, c .before .before .before .before .before .before .before .before .if1 .left), omega (arith, ap length (rest-part 16 (a .octets .now)), rest-short (a .octets .now) (r .0))),
+        (c .before .before .before .before .before .before .before .before .before .before .before .pre .1, c .before .before .before .before .before .before .before .before .before .before .before .pre .2 ∙ sym (named-usable (a .ids .now) (a .terms .head .«port_count») (a .octets .now) (r .0) (r .1)) ∙ ap (portNamed (a .ids .now) (a .terms .head .«port_count»)) (sym (rest-part 16 (a .octets .now)))),
+      ),
     )
 
 returns-3 : tie.Need-returns-3
