@@ -242,12 +242,6 @@ fn host_in(
             call.flow,
         );
     }
-    joins::ask_in(
-        ids,
-        Terms { at, head, x },
-        p,
-        call.amount,
-        call.preferred,
-        reply,
-    )
+    let terms = Terms { at, head, x };
+    joins::ask_in(ids, terms, p, call.amount, call.preferred, reply)
 }
