@@ -207,15 +207,8 @@ fn host_in(
         return card::port_down_in(owner, Terms { at, head, x }, p);
     }
     if call.which == SET_DELEGATION {
-        return card::set_delegation_in(
-            owner,
-            channel,
-            charged,
-            channels,
-            Terms { at, head, x },
-            p,
-            call.amount,
-        );
+        let terms = Terms { at, head, x };
+        return card::set_delegation_in(owner, channel, charged, channels, terms, p, call.amount);
     }
     if call.which == JOIN {
         return joins::join_in(
@@ -233,14 +226,8 @@ fn host_in(
         );
     }
     if call.which == LEAVE {
-        return card::leave_in(
-            owner,
-            channel,
-            channels,
-            Terms { at, head, x },
-            p,
-            call.flow,
-        );
+        let terms = Terms { at, head, x };
+        return card::leave_in(owner, channel, channels, terms, p, call.flow);
     }
     let terms = Terms { at, head, x };
     joins::ask_in(ids, terms, p, call.amount, call.preferred, reply)
