@@ -1,8 +1,10 @@
 -- tools/walk-of-call writes this file: change that program or its template, not what stands here.
--- `exports::ancp_card_call` meets its contract: a walk of its MIR, by hand. The borrow of the core is opened and the core taken apart; the port that
--- the call is about is found, and its record taken out of the table; the pool's maps are lent for the time of the call of `call_in`; the record is lent
--- where it stands for the time of the call of `update`; the head is written; then the core is put together again, and the borrow is closed there. The
--- other parameters go to `call_in` as they came. All that is known of the callees is that they meet their contracts. Assumes nothing.
+-- `exports::ancp_card_call` meets its contract: a walk of its MIR, by hand. The call is read where it is lent; the borrow
+-- of the core is opened and the core taken apart; the port that the call is about is found, and its record taken out of
+-- the table; the pool's maps are lent for the time of the call of `call_in`; the record is lent where it stands for the
+-- time of the call of `update`; the head is written; then the core is put together again, and the borrow is closed there.
+-- The other parameters go to `call_in` as they came. All that is known of the callees is that they meet their contracts.
+-- Assumes nothing.
 use mathlib.Core.Path.{_≡_, refl, sym, ap, subst}
 use Prim.Native.Nat.{ℕ, zero, suc, _<_, _+_, _*_, _^_}
 use native.Mathlib.Omega.{arith}
@@ -130,7 +132,8 @@ abbrev Rest : Lft → Lft → Lft → Lft → Lft → Lft → List RattleType
 Rest κ₁ κ₂ κ₃ κ₄ κ₅ κ₆ = ShrRef (named 1) κ₁ K.the-row ∷ ShrRef (named 2) κ₂ (Array u8 4096) ∷ ShrRef (named 3) κ₃ (Array u32 2816) ∷
     ShrRef (named 4) κ₄ (Array u32 1536) ∷ ShrSlice (named 5) κ₅ u8 ∷ MutSlice (named 6) κ₆ u8 ∷ []
 
--- ---- the parts of the core, and where they lie: a new field in `Pool` or `Port` changes these numbers; one in `Head` does not
+-- ---- the parts of the core, and where they lie: a new field in `Pool` or `Port` changes these numbers,
+-- one in the head does not
 abbrev record-size : ℕ
 record-size = 20
 
@@ -412,9 +415,7 @@ module _ {M : Type 1} (𝓤 : URA M) (H : Heap 𝓤) (A : Atoms 𝓤) (W : Given
         (from ! (stop !)) (init ! 43 refl (LL.lawful K.the-type K′.the-laws 𝓤 H A W .typed k _ k-is .0)) $
         shuts ! tt K.the-row q′ k call-vals (lent-call .ptr .0) (lent-call .ptr .1) $
         -- [κ₁; its borrow; what it resolves to; _27, …, _0; obs; the borrow; κ; ids; channels; entries; octets; reply; κ₂; κ₃; κ₄; κ₅; κ₆]
-        move ! (1 ∷ []) $ drop ! $
-        -- [κ₁; what it resolves to; _27, …, _0; obs; the borrow; κ; ids; channels; entries; octets; reply; κ₂; κ₃; κ₄; κ₅; κ₆]
-        move ! (1 ∷ []) $ drop ! $
+        move ! (1 ∷ 2 ∷ []) $ drop ! $ drop ! $
         -- [κ₁; _27, …, _0; obs; the borrow; κ; ids; channels; entries; octets; reply; κ₂; κ₃; κ₄; κ₅; κ₆]
         move ! (57 ∷ 58 ∷ 59 ∷ []) $ opens ! tt T.the-row {h = h} b o (λ vs.
         spelt ! T.the-row (Is T.the-row) (shows 𝓤 H A T.the-row) (LL.vals T.the-type T′.the-laws) (LL.tells T.the-type T′.the-laws) fullShare h vs b o $
