@@ -106,8 +106,8 @@ typedef struct { ancp_core core; uint8_t number; } ancp_started;
 ancp_started ancp_card_started(const uint8_t *ids, size_t ports, const uint32_t *channels, size_t channel_count, const uint32_t *entries,
                                size_t entry_count, bool white_cac, bool add_cac, uint32_t first);
 
-/* Any call: *core and the start of `reply` are written, nothing else. Nothing of the core is copied but one port's record and its head
-   (counter, counts, switches). */
+/* Any call: *core and the start of `reply` are written, nothing else; *call lies outside both. Nothing of the core is copied but one port's
+   record and its head (counts, counter, switches). */
 ancp_answer ancp_card_call(ancp_core *core, const ancp_call *call, const uint8_t *ids, const uint32_t *channels, const uint32_t *entries,
                            const uint8_t *octets, size_t n, uint8_t *reply, size_t room);
 
