@@ -1,28 +1,36 @@
 -- The claim fails for each worthless build: on a small start, one clause says what the build does not do.
 -- Assumes nothing.
+use Prim.Native.Nat.{ℕ}
 use mathlib.Core.Path.{_≡_, refl, sym, ap, subst, _∙_}
 use mathlib.Core.Logic.{inl}
 use mathlib.Core.Bool.{Bool, true, false, cond, false≢true}
-use mathlib.Core.List.{List, [], _∷_}
+use mathlib.Core.List.{List, [], _∷_, _++_}
 use native.Mathlib.Omega.{arith}
 use lib.ListN.{length, drop, length-drop}
 use borrow.Author.Tests.{eq-eqb, le-leb}
 use Rattle.octets.specs.Tests.{every}
 use Rattle.sums.specs.Sums.{sumBy}
+use Rattle.header.specs.Header.{headerIn}
+use Rattle.ports.specs.declared.Port.{Port}
+use Rattle.ports.specs.Ports as ports
 use Rattle.pool.specs.Pool.{committedOf}
-use Rattle.card.specs.Cards.{Card, isPort}
+use Rattle.card.specs.Cards.{Card, isPort, portAt}
 use Rattle.card.specs.Outcome.{Outcome}
 use Rattle.card.specs.Calls.{portUpOf, setDelegationOf}
-use Rattle.card.specs.Figures.{upOf}
+use Rattle.card.specs.Figures.{upOf, delegationOf}
 use Rattle.listing.specs.Listing.{activeAt}
 use Rattle.commands.specs.Commands.{ranOf}
-use Rattle.demand3.specs.Calls.{Call, ours, outcomeOf, startedOf, cardAfter, history, seen, byCall}
+use Rattle.transfers.specs.Transfers.{transferGives}
+use Rattle.demand3.specs.Calls.{Tables, Call, ours, outcomeOf, startedOf, cardAfter, history, seen, byCall}
 use Rattle.demand3.specs.Calls.Call.{portUp, setDelegation, join, message}
-use Rattle.demand3.specs.Ledger.{Ledger, opened, write, withDelegation, holds, begins, entry, entered, ledgerFrom}
+use Rattle.demand3.specs.Reads.{Names, NoneNames}
+use Rattle.demand3.specs.Ledger.{Line, Ledger, opened, write, withDelegation, holds, begins, entry, entered, ledgerFrom}
 use Rattle.demand3.specs.Claim.{charges, Starts, Claim}
-use Rattle.demand3.specs.Builds.{calling, refusing, agreeable, idle, firstRun, firstOnly, deaf, inventing, forgetful, Worthless}
+use Rattle.demand3.specs.Builds.{calling, refusing, oneAnswer, dead, idle, firstRun, firstOnly, deaf, robbed, robber, inventing, forgetful, Worthless}
 use Rattle.demand3.proofs.Agree.{Agree}
-use Rattle.demand3.proofs.Figures.{committed-is}
+use Rattle.demand3.proofs.Figures.{committed-is, has-port, reads-delegation}
+use Rattle.demand3.proofs.Steps.{port-set}
+use Rattle.demand3.proofs.Transfers.{at-eq}
 use Rattle.demand3.proofs.Host.{delegation-step}
 use Rattle.demand3.proofs.Join.{join-starts}
 use Rattle.demand3.proofs.Calls.{claim}
@@ -45,7 +53,7 @@ use Rattle.demand3.proofs.BuildsStart.{
   up-number,
   up-agrees,
 }
-use Rattle.demand3.proofs.BuildsMessage.{command, both-added, added-kind, added-port, added-commands, first-alone, second-reached, second-starts}
+use Rattle.demand3.proofs.BuildsMessage.{command, both-added, added-kind, added-port, added-commands, first-alone, second-reached, second-starts, other-asked, asked-kind, asked-port}
 
 -- ---- behind port up: without admission control a join starts, and its number is 0
 refuses-every-join : Claim (calling refusing) → ⊥
@@ -55,13 +63,18 @@ refuses-every-join c =
     let z = d .joins 0 first 4608 (first-wanted false) (first-white false) (omega arith) .0 .1 (inl (omega arith)) in
     omega arith
 
--- with it, it does not start under delegation 0, and its number is not 0
-keeps-one-answer : Claim (calling agreeable) → ⊥
-unfolding agreeable Starts charges sumBy write
-keeps-one-answer c =
-    let d = up-claim agreeable true c refl in
-    let fits = d .joins 0 first 4608 (first-wanted true) (first-white true) (omega arith) .0 .0 refl .0 in
-    omega (arith, first-rate true)
+-- at start: port 0 goes up, and 2, which is no port, does not
+gives-one-answer : (number : ℕ) (does : Tables → Card → Call → Card) (writes : Tables → Card → Call → List ℕ)
+    → Claim (calling (oneAnswer number does writes)) → ⊥
+unfolding oneAnswer
+gives-one-answer number does writes c =
+    let d = c .holds-after (small true) 1 (taken true) [] in
+    let beyond = d .ups 2 .0 (d .ups 0 .1 (omega arith)) in
+    omega arith
+
+is-dead : Claim (calling dead) → ⊥
+unfolding dead
+is-dead c = let z = c .holds-after (small true) 1 (taken true) [] .ups 0 .1 (omega arith) in omega arith
 
 -- the port reads up
 changes-nothing : Claim (calling idle) → ⊥
@@ -160,14 +173,58 @@ leaves-out-a-flow c =
     let one : length (lines 0 .flows) ≡ 1 = ap (λ (l : Ledger). length (l 0 .flows)) charged-is in
     omega (arith, length-drop 1 (ours .flows (small true) card 0))
 
+-- ---- behind port up and 1000 kbit/s for port 0, a 146 for port 1: port 0 keeps its delegation
+abbrev funded : List Call
+funded = portUp 0 ∷ setDelegation 0 1000 ∷ []
+
+abbrev asked : List Call
+asked = message other-asked 4608 ∷ []
+
+-- the card that robs, behind them
+abbrev cut : Card
+cut = transferGives (small true .ids) (delegated .card) (headerIn other-asked) 0 (committedOf (small true .channels) (delegated .card .pool) 0) .card
+
+robbed-is : robber (small true) (delegated .card) (message other-asked 4608) .card ≡ cut
+unfolding robber byCall robbed
+robbed-is = rw (asked-kind, asked-port true)
+
+-- nothing is left of the 1000
+cut-reads : ours .delegation cut 0 ≡ 0
+unfolding transferGives delegationOf charges sumBy write
+cut-reads =
+    let port = has-port (small true) (delegated .card) given given-agrees (tables true) 0 (omega arith) in
+    let kept = port-set (small true) (delegated .card) given given-agrees 0 (omega arith)
+    (ports.delegated (portAt (delegated .card) 0) (committedOf (small true .channels) (delegated .card .pool) 0)) in
+    ap (λ (b : Bool). cond b (portAt cut 0 .delegation) 0) port
+    ∙ ap (λ (x : Port). x .delegation) kept
+    ∙ committed-is (small true) (delegated .card) given given-agrees 0 (omega arith)
+
+robs-a-port : Claim (calling robber) → ⊥
+unfolding robber byCall cardAfter NoneNames Names write
+robs-a-port c =
+    let start : Card = startedOf (small true) 1 .card in
+    let others : NoneNames (small true) asked 0 = (λ e. let z = at-eq (sym (asked-port true) ∙ e) in omega arith, tt) in
+    let reads : (calls : List Call) → delegationOf (cardAfter (calling robber) (small true) start calls) 0
+        ≡ ledgerFrom (small true) opened (history (calling robber) (small true) start calls) 0 .delegation =
+    λ calls. c .holds-after (small true) 1 (taken true) calls .delegation 0 (omega arith) in
+    let same : delegationOf (cardAfter (calling robber) (small true) start (funded ++ asked)) 0 ≡ delegationOf (cardAfter (calling robber) (small true) start funded) 0 =
+    reads (funded ++ asked) ∙ ap (λ (x : Line). x .delegation) (c .others-keep (small true) 1 (taken true) funded asked 0 others) ∙ sym (reads funded) in
+    let here : delegationOf (robber (small true) (delegated .card) (message other-asked 4608) .card) 0 ≡ delegationOf (delegated .card) 0 =
+    subst (λ (s : Card). delegationOf (cardAfter (calling robber) (small true) s (funded ++ asked)) 0 ≡ delegationOf (cardAfter (calling robber) (small true) s funded) 0)
+    (started-is true) same in
+    let was : delegationOf (delegated .card) 0 ≡ 1000 = reads-delegation (small true) (delegated .card) given given-agrees (tables true) 0 (omega arith) in
+    omega (arith, sym cut-reads ∙ ap (λ (x : Card). delegationOf x 0) (sym robbed-is) ∙ here ∙ was)
+
 pub worthless : Worthless
 worthless =
     record {
       refuses-every-join = refuses-every-join;
-      keeps-one-answer = keeps-one-answer;
+      gives-one-answer = gives-one-answer;
+      is-dead = is-dead;
       changes-nothing = changes-nothing;
       runs-command-1 = runs-command-1;
       refuses-every-message = refuses-every-message;
       invents-committed = invents-committed;
       leaves-out-a-flow = leaves-out-a-flow;
+      robs-a-port = robs-a-port;
     }

@@ -3,11 +3,12 @@
 --     second-reached           the second Add is reached
 --     second-starts            and starts by the rule
 --     first-alone              behind the first alone, the second flow is not active
+-- And a 146 for port 1 (`other-asked`).
 -- Assumes nothing.
 use Prim.Native.Nat.{ℕ}
 use mathlib.Core.Path.{_≡_, refl, sym, ap, subst, _∙_}
 use mathlib.Core.Logic.{inl, inr}
-use mathlib.Core.Bool.{true, false}
+use mathlib.Core.Bool.{Bool, true, false}
 use mathlib.Core.List.{List, [], _∷_, _++_}
 use native.Mathlib.Omega.{arith}
 use lib.ListN.{length, drop}
@@ -143,3 +144,18 @@ second-reached =
 pub second-starts : Starts (small false) false (behind (small false) one-up 0 (command 1 ∷ [])) 0 second
 unfolding Starts write
 second-starts = subst (λ (x : Line). Starts (small false) false (write one-up 0 x) 0 second) (sym behind-first) (inl (omega arith))
+
+-- ---- a 146 for port 1: header, Target, Bandwidth-Request for 500, if possible for 0
+abbrev pub other-asked : List ℕ
+other-asked =
+    0x88 ∷ 0x0C ∷ 0 ∷ 36 ∷ 0x32 ∷ 146 ∷ 0 ∷ 0 ∷ 0 ∷ 0 ∷ 0 ∷ 1 ∷ 0x80 ∷ 0x01 ∷ 0 ∷ 36
+    ∷ 0x10 ∷ 0x00 ∷ 0 ∷ 8 ∷ 0 ∷ 1 ∷ 0 ∷ 1 ∷ 113 ∷ 0 ∷ 0 ∷ 0
+    ∷ 0 ∷ 0x16 ∷ 0 ∷ 8 ∷ 0 ∷ 0 ∷ 1 ∷ 244 ∷ 0 ∷ 0 ∷ 0 ∷ 0 ∷ []
+
+pub asked-kind : kindIn other-asked ≡ 146
+unfolding kindIn headerIn
+asked-kind = refl
+
+pub asked-port : (cac : Bool) → portIn (small cac) other-asked ≡ At 1
+unfolding portIn portOf rows.firstOf rows.firstFrom idAt idLength same idIn itemsOf ofType firstOf foldTlvs foldUpTo foldBy firstTlv
+asked-port cac = refl

@@ -1,4 +1,4 @@
--- The start on which worthless builds are tried: one port "p", two IPv4 channels of 1000 kbit/s, one white entry for all IPv4 groups.
+-- The start on which worthless builds are tried: ports "p" and "q", two IPv4 channels of 1000 kbit/s, one white entry for all IPv4 groups.
 --     small, small-taken               the tables, with both switches as asked, are taken
 --     first, second                    the two flows
 --     started, started-is, tables      the card at start
@@ -8,8 +8,9 @@
 use Prim.Native.Nat.{ℕ}
 use mathlib.Core.Path.{_≡_, refl, subst}
 use mathlib.Core.Bool.{Bool, true, false, cond}
-use mathlib.Core.List.{[], _∷_}
+use mathlib.Core.List.{[], _∷_, _++_}
 use native.Mathlib.Omega.{arith}
+use lib.ListN.{replicate}
 use lib.Dec.{eqb}
 use borrow.Author.Tests.{eq-eqb}
 use Rattle.octets.specs.Tests.{every}
@@ -41,8 +42,8 @@ use Rattle.demand3.proofs.Host.{up-step}
 abbrev pub small : Bool → Tables
 small cac =
     record {
-      ids = 1 ∷ 112 ∷ [];
-      ports = 1;
+      ids = 1 ∷ 112 ∷ (replicate 62 0 ++ 1 ∷ 113 ∷ []);
+      ports = 2;
       channels = 1 ∷ 0 ∷ 1000 ∷ 4009754625 ∷ 0 ∷ 0 ∷ 0 ∷ 0 ∷ 0 ∷ 0 ∷ 0 ∷ 1 ∷ 0 ∷ 1000 ∷ 4009754626 ∷ [];
       channelCount = 2;
       entries = 1 ∷ 1 ∷ 4 ∷ 0 ∷ 3758096384 ∷ [];
@@ -85,7 +86,7 @@ module _ (cac : Bool) where
 
   -- ---- the card at start
   abbrev pub started : Card
-  started = freshCard 1 2 1 cac cac 1
+  started = freshCard 2 2 1 cac cac 1
 
   pub taken : startedOf (small cac) 1 .number ≡ 0
   taken = start-takes (small cac) 1 (small-taken cac) (omega arith) (omega arith)

@@ -14,9 +14,9 @@ use Rattle.card.specs.Outcome.{Outcome}
 use Rattle.demand3.specs.Calls.{Tables, Call, ours, outcomeOf, startedOf}
 use Rattle.demand3.specs.Calls.Call.{setDelegation, message}
 use Rattle.demand3.specs.Ledger.{Line, Ledger, holds, opened}
-use Rattle.demand3.specs.Reads.{kindIn, resultIn, rateOf}
+use Rattle.demand3.specs.Reads.{kindIn, resultIn, rateOf, NoneNames}
 use Rattle.demand3.specs.Claim.{charges, Starts, Wanted, Sound}
-use Rattle.demand3.specs.Corollaries.{NoneNames, cardOf, linesOf, Fits, FirstFour, NoneUntilAsked, Moves, listReply, Corollaries}
+use Rattle.demand3.specs.Corollaries.{cardOf, linesOf, Fits, FirstFour, NoneUntilAsked, Moves, listReply, Corollaries}
 use Rattle.demand3.proofs.Agree.{Agree, TablesTaken}
 use Rattle.demand3.proofs.Figures.{reads-delegation}
 use Rattle.demand3.proofs.Lists.{lists-reply}

@@ -3,23 +3,28 @@
 --     call-step            card and ledger agree behind it
 --     entered-other        it leaves the line of every port that it does not name
 --     entered-delegation   and every delegation, unless it is set delegation, a 146, or a 147 with Result 3
+--     entered-none         and the line of a number that is no port's
 -- Assumes nothing.
-use Prim.Native.Nat.{ℕ}
-use mathlib.Core.Path.{_≡_, refl, ap}
+use Prim.Native.Nat.{ℕ, _≤_, _<_}
+use mathlib.Core.Path.{_≡_, refl, ap, subst}
 use mathlib.Core.Bool.{Bool, true, false, cond}
 use mathlib.Core.List.{List}
+use native.Mathlib.Omega.{arith}
 use lib.Dec.{eqb}
+use borrow.Author.Tests.{eqb-true}
 use Rattle.rows.specs.declared.Found.the-variants.{At}
 use Rattle.card.specs.Cards.{Card}
 use Rattle.demand3.specs.Calls.{Tables, Call, ours, outcomeOf, seen, byCall}
 use Rattle.demand3.specs.Calls.Call.{portUp, portDown, setDelegation, join, leave, ask, message}
 use Rattle.demand3.specs.Ledger.{Ledger, entry, entered}
-use Rattle.demand3.specs.Corollaries.{Names}
+use Rattle.demand3.specs.Reads.{Names}
 use Rattle.demand3.proofs.Agree.{Agree, TablesTaken}
 use Rattle.demand3.proofs.Host.{up-step, down-step, delegation-step, leave-step, ask-step}
 use Rattle.demand3.proofs.Join.{join-step}
 use Rattle.demand3.proofs.Messages.{message-step}
 use Rattle.demand3.proofs.Ways.{Way, up-way, down-way, delegation-way, join-way, leave-way, ask-way, message-way}
+use Rattle.demand3.proofs.Transfers.{at-eq}
+use Rattle.demand3.proofs.Taken.{Known, up-known, down-known, delegation-known, join-known, leave-known, ask-known, named-known}
 use Rattle.demand3.proofs.Frames.{NotSet, NotMoved, Frame, kept-frame, line-frame, set-frame, message-frame}
 
 -- card and ledger agree behind a call
@@ -30,24 +35,64 @@ pub record Each (t : Tables) (x : Call) : Type 0 where
   pub way : (card : Card) → Way t card x (outcomeOf t card x)
   pub step : TablesTaken t → (card : Card) (l : Ledger) → Agree t card l → Keeps t card l x
   pub frame : TablesTaken t → (card : Card) (l : Ledger) → Agree t card l → (p : ℕ) → Frame t l x (outcomeOf t card x .reply) p
+  pub known : (card : Card) → card .head .«port_count» ≡ t .ports → (p : ℕ) → Names t x p → Known t card x p
 
 module _ (t : Tables) where
+  -- a call about q is one about p where these are the same
+  about : (card : Card) (x : Call) {q p : ℕ} → Known t card x q → q ≡ p → Known t card x p
+  about card x k e z = subst (λ (i : ℕ). i < t .ports) e (k z)
+
   each-call : (x : Call) → Each t x
   unfolding entry Names byCall
   each-call (portUp q) =
-      record { way = λ c. up-way t c _ q; step = λ k c l a. up-step t c l a q; frame = λ k c l a p. line-frame t l _ _ p q (ap At) _ refl refl }
+      record {
+        way = λ c. up-way t c _ q;
+        step = λ k c l a. up-step t c l a q;
+        frame = λ k c l a p. line-frame t l _ _ p q (ap At) _ refl refl;
+        known = λ c e p n. about c (portUp q) (up-known t c e q) (at-eq n);
+      }
   each-call (portDown q) =
-      record { way = λ c. down-way t c _ q; step = λ k c l a. down-step t c l a q; frame = λ k c l a p. line-frame t l _ _ p q (ap At) _ refl refl }
+      record {
+        way = λ c. down-way t c _ q;
+        step = λ k c l a. down-step t c l a q;
+        frame = λ k c l a p. line-frame t l _ _ p q (ap At) _ refl refl;
+        known = λ c e p n. about c (portDown q) (down-known t c e q) (at-eq n);
+      }
   each-call (setDelegation q amount) =
-      record { way = λ c. delegation-way t c _ q amount; step = λ k c l a. delegation-step t c l a q amount; frame = λ k c l a p. set-frame t l _ _ p q (ap At) _ refl amount refl }
+      record {
+        way = λ c. delegation-way t c _ q amount;
+        step = λ k c l a. delegation-step t c l a q amount;
+        frame = λ k c l a p. set-frame t l _ _ p q (ap At) _ refl amount refl;
+        known = λ c e p n. about c (setDelegation q amount) (delegation-known t c e q amount) (at-eq n);
+      }
   each-call (join q f room) =
-      record { way = λ c. join-way t c _ q f room; step = λ k c l a. join-step t c l a q f room; frame = λ k c l a p. line-frame t l _ _ p q (λ e. e) _ refl refl }
+      record {
+        way = λ c. join-way t c _ q f room;
+        step = λ k c l a. join-step t c l a q f room;
+        frame = λ k c l a p. line-frame t l _ _ p q (λ e. e) _ refl refl;
+        known = λ c e p n. about c (join q f room) (join-known t c e q f room) n;
+      }
   each-call (leave q f) =
-      record { way = λ c. leave-way t c _ q f; step = λ k c l a. leave-step t c l a q f; frame = λ k c l a p. line-frame t l _ _ p q (ap At) _ refl refl }
+      record {
+        way = λ c. leave-way t c _ q f;
+        step = λ k c l a. leave-step t c l a q f;
+        frame = λ k c l a p. line-frame t l _ _ p q (ap At) _ refl refl;
+        known = λ c e p n. about c (leave q f) (leave-known t c e q f) (at-eq n);
+      }
   each-call (ask q m n room) =
-      record { way = λ c. ask-way t c _ q m n room refl; step = λ k c l a. ask-step t c l a q m n room; frame = λ k c l a p. kept-frame t l _ _ p refl }
+      record {
+        way = λ c. ask-way t c _ q m n room refl;
+        step = λ k c l a. ask-step t c l a q m n room;
+        frame = λ k c l a p. kept-frame t l _ _ p refl;
+        known = λ c e p s. about c (ask q m n room) (ask-known t c e q m n room) s;
+      }
   each-call (message m room) =
-      record { way = λ c. message-way t c _ m room; step = λ k c l a. message-step t c l a m k room; frame = λ k c l a p. message-frame t k p c l a m room }
+      record {
+        way = λ c. message-way t c _ m room;
+        step = λ k c l a. message-step t c l a m k room;
+        frame = λ k c l a p. message-frame t k p c l a m room;
+        known = λ c e p n z. named-known t m p n;
+      }
 
   pub call-way : (card : Card) (x : Call) → Way t card x (outcomeOf t card x)
   call-way card x = each-call x .way card
@@ -76,3 +121,14 @@ module _ (t : Tables) where
           go : (b : Bool) → cond b (entry t l x (outcomeOf t card x .reply)) l p .delegation ≡ l p .delegation
           go true = frame .delegation n k
           go false = refl
+
+      -- what is taken is about a port
+      pub entered-none : t .ports ≤ p → entered t l (seen ours t card x) p ≡ l p
+      unfolding entered
+      entered-none beyond = go (eqb (outcomeOf t card x .number) 0) refl
+        where
+          go : (b : Bool) → eqb (outcomeOf t card x .number) 0 ≡ b → cond b (entry t l x (outcomeOf t card x .reply)) l p ≡ l p
+          go true z =
+              frame .other
+              (λ n. let port = each-call x .known card (a .ports) p n (eqb-true (outcomeOf t card x .number) 0 z) in omega arith)
+          go false z = refl

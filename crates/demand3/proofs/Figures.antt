@@ -2,11 +2,11 @@
 --     active-is, has-is, count-is, extras-is, committed-is      the figures that calls decide by
 --     has-port                                          the ports are those of start
 --     reads-up, reads-delegation, reads-active, reads-committed      what a host reads
---     reads-once, reads-bounded                         no flow twice; committed within the delegation
+--     reads-once, reads-listed, reads-bounded           no flow twice, none that is not listed; committed within the delegation
 -- Assumes nothing.
 use Prim.Native.Nat.{ℕ, _-_, _≤_, _<_}
 use mathlib.Core.Path.{_≡_, refl, sym, ap, _∙_}
-use mathlib.Core.Bool.{Bool, true, false, cond}
+use mathlib.Core.Bool.{Bool, true, false, cond, false≢true}
 use mathlib.Core.List.{[], _∷_}
 use native.Mathlib.Omega.{arith}
 use lib.ListN.{length}
@@ -24,6 +24,7 @@ use Rattle.card.specs.Figures.{upOf, delegationOf, committedAt}
 use Rattle.listing.specs.Listing.{activeRow, activeAt}
 use Rattle.demand3.specs.Calls.{Tables}
 use Rattle.demand3.specs.Ledger.{Ledger, holds}
+use Rattle.demand3.specs.Reads.{listed}
 use Rattle.demand3.specs.Claim.{charges, allExtras, Once}
 use Rattle.demand3.proofs.Rows.{found, selWeight, rowWeight, rateWeight, row-same, row-named, holds-sum, length-sum, charges-sum, unlisted-held, unlisted-at}
 use Rattle.demand3.proofs.Agree.{Agree, TablesTaken}
@@ -86,6 +87,13 @@ module _ (t : Tables) (card : Card) (l : Ledger) (a : Agree t card l) where
 
     pub reads-once : Once (l p .flows)
     reads-once = a .at p below .once
+
+    pub reads-listed : (f : Flow) → holds f (l p .flows) ≡ true → listed t f ≡ true
+    reads-listed f held = go (listed t f) refl
+      where
+        go : (b : Bool) → listed t f ≡ b → b ≡ true
+        go true e = refl
+        go false e = absurd (false≢true (sym (unlisted-held t f e (l p .flows) (a .at p below .rows)) ∙ held))
 
     pub reads-bounded : charges t (l p) ≤ l p .delegation
     reads-bounded = a .at p below .bounded

@@ -17,9 +17,9 @@ use Rattle.control.specs.Control.{commandsIn}
 use Rattle.card.specs.Cards.{Card}
 use Rattle.demand3.specs.Calls.{Tables, Call, outcomeOf, byCall}
 use Rattle.demand3.specs.Calls.Call.{setDelegation, message}
-use Rattle.demand3.specs.Reads.{kindIn, resultIn, portIn, amountIn}
+use Rattle.demand3.specs.Reads.{kindIn, resultIn, portIn, amountIn, Names}
 use Rattle.demand3.specs.Ledger.{Line, Ledger, write, withDelegation, actedIn, actsAll, writeAt, messageEntry, entry}
-use Rattle.demand3.specs.Corollaries.{Names, Moves}
+use Rattle.demand3.specs.Corollaries.{Moves}
 use Rattle.demand3.proofs.Agree.{Agree, TablesTaken, same-or-not, write-same, write-other}
 use Rattle.demand3.proofs.Command.{all-keep}
 use Rattle.demand3.proofs.Transfers.{reply-147}

@@ -20,6 +20,7 @@ pub mod Adds
 pub mod Transfers
 pub mod Ways
 pub mod Frames
+pub mod Taken
 pub mod Each
 pub mod Calls
 pub mod Quiet

@@ -5,12 +5,15 @@ use mathlib.Core.Bool.{cond}
 use mathlib.Core.List.{List, [], _∷_}
 use lib.ListN.{drop}
 use lib.Dec.{eqb}
+use Rattle.header.specs.Header.{headerIn}
 use Rattle.rows.specs.declared.Found.{Found}
 use Rattle.rows.specs.declared.Found.the-variants.{At, Nothing}
+use Rattle.pool.specs.Pool.{committedOf}
 use Rattle.card.specs.Cards.{Card}
 use Rattle.card.specs.Outcome.{Outcome, keeps}
 use Rattle.commands.specs.Commands.{ranOf}
 use Rattle.control.specs.Control.{commandsIn}
+use Rattle.transfers.specs.Transfers.{transferGives}
 use Rattle.demand3.specs.Calls.{Tables, Call, Build, ours, outcomeOf, ofJoin, ofMessage}
 use Rattle.demand3.specs.Reads.{kindIn, portIn}
 use Rattle.demand3.specs.Claim.{Claim}
@@ -32,9 +35,13 @@ calling outcome =
 unfoldable pub refusing : Tables → Card → Call → Outcome
 refusing t card x = ofJoin (λ p f room. keeps card 3) (outcomeOf t card x) x
 
--- keeps one answer: 0 and no reply, whatever is called
-unfoldable pub agreeable : Tables → Card → Call → Outcome
-agreeable t card x = record { card = outcomeOf t card x .card; number = 0; reply = [] }
+-- gives one number to every call, whatever it does and writes
+unfoldable pub oneAnswer : ℕ → (Tables → Card → Call → Card) → (Tables → Card → Call → List ℕ) → Tables → Card → Call → Outcome
+oneAnswer number does writes t card x = record { card = does t card x; number = number; reply = writes t card x }
+
+-- a dead card: 7 to every call, and nothing changes
+unfoldable pub dead : Tables → Card → Call → Outcome
+dead t card x = keeps card 7
 
 -- changes nothing, and answers as ours does
 unfoldable pub idle : Tables → Card → Call → Outcome
@@ -88,11 +95,23 @@ forgetful =
 unfoldable pub deaf : Tables → Card → Call → Outcome
 deaf t card x = ofMessage (λ m room. keeps card 15) (outcomeOf t card x) x
 
+-- robs port 0: a 146 for another port cuts port 0's delegation to what is committed there, and the 147 says so, and names port 0
+unfoldable pub robbed : Tables → Card → List ℕ → Found → Outcome → Outcome
+robbed t card m Nothing o = o
+robbed t card m (At p) o = cond (eqb p 0) o (transferGives (t .ids) card (headerIn m) 0 (committedOf (t .channels) (card .pool) 0))
+
+unfoldable pub robber : Tables → Card → Call → Outcome
+robber t card x =
+    ofMessage (λ m room. cond (eqb (kindIn m) 146) (robbed t card m (portIn t m) (outcomeOf t card x)) (outcomeOf t card x)) (outcomeOf t card x) x
+
 pub record Worthless : Type 0 where
   pub refuses-every-join : Claim (calling refusing) → ⊥
-  pub keeps-one-answer : Claim (calling agreeable) → ⊥
+  pub gives-one-answer : (number : ℕ) (does : Tables → Card → Call → Card) (writes : Tables → Card → Call → List ℕ)
+      → Claim (calling (oneAnswer number does writes)) → ⊥
+  pub is-dead : Claim (calling dead) → ⊥
   pub changes-nothing : Claim (calling idle) → ⊥
   pub runs-command-1 : Claim (calling firstOnly) → ⊥
   pub refuses-every-message : Claim (calling deaf) → ⊥
   pub invents-committed : Claim inventing → ⊥
   pub leaves-out-a-flow : Claim forgetful → ⊥
+  pub robs-a-port : Claim (calling robber) → ⊥

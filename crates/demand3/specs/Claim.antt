@@ -15,16 +15,17 @@ use Rattle.tables.specs.Tables.{tablesOk}
 use Rattle.sums.specs.Sums.{sumTo, sumBy}
 use Rattle.card.specs.Cards.{Card}
 use Rattle.card.specs.Outcome.{Outcome}
-use Rattle.demand3.specs.Reads.{At, Order, ill, add, delete, deleteAll, orderOf, commandsIn, kindIn, resultIn, tlvsIn, portIn, listed, rateOf, isWhite}
+use Rattle.demand3.specs.Reads.{At, Order, ill, add, delete, deleteAll, orderOf, commandsIn, kindIn, resultIn, tlvsIn, portIn, listed, rateOf, isWhite, NoneNames}
 use Rattle.demand3.specs.Calls.{Tables, Call, Build, cardAfter, history}
-use Rattle.demand3.specs.Calls.Call.{join, message}
+use Rattle.demand3.specs.Calls.Call.{portUp, setDelegation, join, message}
 use Rattle.demand3.specs.Ledger.{Held, Line, Ledger, write, holds, actedIn, acts, actsAll, opened, ledgerFrom}
 
 -- the sum of the rates of the flows that a line charges
 unfoldable pub charges : Tables → Line → ℕ
 charges t x = sumBy (λ h. cond (h .charged) (rateOf t (h .flow)) 0) (x .flows)
 
--- what all ports together use beyond their fours; there are at most 64, and a number that is no port's has no flow
+-- what all ports together use beyond their fours (`-` stops at 0); there are at most 64, and a number that is no port's has no flow:
+-- clause `no-port`
 unfoldable pub allExtras : Ledger → ℕ
 allExtras l = sumTo 64 (λ q. length (l q .flows) - 4)
 
@@ -115,8 +116,14 @@ pub record Demand3 (b : Build) (t : Tables) (card : Card) (l : Ledger) : Type 0 
   pub flows : (p : ℕ) (f : Flow) → p < t .ports → timesIn f (b .flows t card p) ≡ cond (holds f (l p .flows)) 1 0
   pub count : (p : ℕ) → p < t .ports → length (b .flows t card p) ≡ length (l p .flows)
   pub order : (p : ℕ) → p < t .ports → InOrder (b .flows t card p)
+  -- each is that of a listed channel, and a number that is no port's has its line of the start, without flows
+  pub is-listed : (p : ℕ) (f : Flow) → p < t .ports → holds f (l p .flows) ≡ true → listed t f ≡ true
+  pub no-port : (p : ℕ) → t .ports ≤ p → l p ≡ opened p
   -- and the committed amount never passes the delegation
   pub bounded : (p : ℕ) → p < t .ports → charges t (l p) ≤ l p .delegation
+  -- a port, and no other number, goes up when asked; a delegation is set exactly where it is not under the committed amount
+  pub ups : (p : ℕ) → (b .outcome t card (portUp p) .number ≡ 0) ↔ (p < t .ports)
+  pub sets : (p amount : ℕ) → p < t .ports → (b .outcome t card (setDelegation p amount) .number ≡ 0) ↔ (charges t (l p) ≤ amount)
   -- a white-listed join starts exactly when the rule says so
   pub joins : (p : ℕ) (f : Flow) (room : ℕ) → Wanted t l p f → isWhite t f → 4608 ≤ room
       → ((b .outcome t card (join p f room) .number ≡ 0) ↔ Starts t (t .whiteCac) l p f)
@@ -137,3 +144,6 @@ pub record Claim (b : Build) : Type 0 where
   -- and from a start that is taken, demand 3 holds after every list of calls, refused ones included
   pub holds-after : (t : Tables) (first : ℕ) → b .start t first .number ≡ 0 → (calls : List Call)
       → Demand3 b t (cardAfter b t (b .start t first .card) calls) (ledgerFrom t opened (history b t (b .start t first .card) calls))
+  -- "Whatever the calls for other ports do": calls that are about other ports leave port p's line as it is
+  pub others-keep : (t : Tables) (first : ℕ) → b .start t first .number ≡ 0 → (xs ys : List Call) (p : ℕ) → NoneNames t ys p
+      → ledgerFrom t opened (history b t (b .start t first .card) (xs ++ ys)) p ≡ ledgerFrom t opened (history b t (b .start t first .card) xs) p

@@ -16,17 +16,9 @@ use Rattle.rows.specs.declared.Found.the-variants.{At}
 use Rattle.card.specs.Cards.{Card}
 use Rattle.demand3.specs.Calls.{Tables, Call, ours, outcomeOf, startedOf, cardAfter, history, byCall}
 use Rattle.demand3.specs.Calls.Call.{portDown, setDelegation, join, message}
-use Rattle.demand3.specs.Reads.{kindIn, resultIn, portIn, rateOf, isWhite}
+use Rattle.demand3.specs.Reads.{kindIn, resultIn, portIn, rateOf, isWhite, NoneNames}
 use Rattle.demand3.specs.Ledger.{Ledger, opened, ledgerFrom}
 use Rattle.demand3.specs.Claim.{charges, Wanted, Sound, Reaches, behind, Acted}
-
--- a call is about port p
-unfoldable pub Names : Tables → Call → ℕ → Type 0
-Names t x p = byCall (λ q f room. q ≡ p) (λ q. q ≡ p) (λ m room. portIn t m ≡ At p) (λ q. q ≡ At p) x
-
-unfoldable pub NoneNames : Tables → List Call → ℕ → Type 0
-NoneNames t [] p = Unit {0}
-NoneNames t (x ∷ xs) p = (Names t x p → ⊥) × NoneNames t xs p
 
 -- after a list of calls from a start that was taken
 abbrev pub cardOf : Tables → ℕ → List Call → Card

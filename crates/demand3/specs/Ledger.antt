@@ -57,7 +57,7 @@ begins x f charged = withFlows x (record { flow = f; charged = charged } ∷ x .
 
 -- ---- entries
 -- the commands of a 144 that acted: all of them, or under Failure (4) those before the one that the Sequence-Number directly inside
--- its Status-Info names, none without one
+-- its Status-Info names, none without one; `-` stops at 0
 unfoldable pub actedIn : List ℕ → List (List ℕ) → List (List ℕ)
 actedIn reply cs =
     cond (eqb (resultIn reply) 4)

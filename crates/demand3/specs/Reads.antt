@@ -3,7 +3,7 @@
 use Prim.Native.Nat.{ℕ}
 use mathlib.Core.Path.{_≡_}
 use mathlib.Core.Bool.{Bool, not}
-use mathlib.Core.List.{List}
+use mathlib.Core.List.{List, [], _∷_}
 use lib.ListN.{drop}
 use Rattle.flows.specs.declared.Flow.{Flow}
 use Rattle.header.specs.Header.{headerIn}
@@ -15,7 +15,7 @@ use Rattle.circuits.specs.Circuits.{portOf}
 use Rattle.lists.specs.declared.Decision.the-variants.{White}
 use Rattle.lists.specs.Lists.{listDecision}
 use Rattle.checks.specs.Table.{idIn}
-use Rattle.demand3.specs.Calls.{Tables}
+use Rattle.demand3.specs.Calls.{Tables, Call, byCall}
 -- a port that is found or not, the commands of a 144, and what a command asks for
 pub use Rattle.rows.specs.declared.Found.{Found}
 pub use Rattle.rows.specs.declared.Found.the-variants.{At, Nothing}
@@ -64,3 +64,14 @@ rateOf t f = rateBy t (channelOf (t .channels) (t .channelCount) f)
 -- the lists decide white for it
 abbrev pub isWhite : Tables → Flow → Type 0
 isWhite t f = listDecision (t .entries) (t .entryCount) f ≡ White
+
+-- ---- a call
+
+-- it is about port p: a host's call for p, a message whose Target names p
+unfoldable pub Names : Tables → Call → ℕ → Type 0
+Names t x p = byCall (λ q f room. q ≡ p) (λ q. q ≡ p) (λ m room. portIn t m ≡ At p) (λ q. q ≡ At p) x
+
+-- none of some calls is about it
+unfoldable pub NoneNames : Tables → List Call → ℕ → Type 0
+NoneNames t [] p = Unit {0}
+NoneNames t (x ∷ xs) p = (Names t x p → ⊥) × NoneNames t xs p
