@@ -11,12 +11,12 @@ use Rattle.header.specs.Header.{headerIn}
 use Rattle.ports.specs.declared.Port.{Port}
 use Rattle.card.specs.Cards.{portAt}
 use Rattle.card.specs.Outcome.{Outcome}
-use Rattle.demand3.specs.Calls.{Tables, Call, ours, outcomeOf, startedOf}
+use Rattle.demand3.specs.Calls.{Tables, Call, Build, ours, outcomeOf, startedOf}
 use Rattle.demand3.specs.Calls.Call.{setDelegation, message}
 use Rattle.demand3.specs.Ledger.{Line, Ledger, holds, opened}
 use Rattle.demand3.specs.Reads.{kindIn, resultIn, rateOf, NoneNames}
-use Rattle.demand3.specs.Claim.{charges, Starts, Wanted, Sound}
-use Rattle.demand3.specs.Corollaries.{cardOf, linesOf, Fits, FirstFour, NoneUntilAsked, Moves, listReply, Corollaries}
+use Rattle.demand3.specs.Claim.{charges, Starts, Wanted, Sound, Claim}
+use Rattle.demand3.specs.Corollaries.{linesBy, cardOf, linesOf, Fits, FirstFour, NoneUntilAsked, Moves, listReply, Corollaries}
 use Rattle.demand3.proofs.Agree.{Agree, TablesTaken}
 use Rattle.demand3.proofs.Figures.{reads-delegation}
 use Rattle.demand3.proofs.Lists.{lists-reply}
@@ -24,7 +24,7 @@ use Rattle.demand3.proofs.Reached.{sound-below, flows-queried}
 use Rattle.demand3.proofs.Fresh.{agree-fresh, started-port}
 use Rattle.demand3.proofs.Quiet.{call-quiet}
 use Rattle.demand3.proofs.Each.{call-step, entered-delegation}
-use Rattle.demand3.proofs.Calls.{calls-agree, lines-kept, claim}
+use Rattle.demand3.proofs.Calls.{calls-agree}
 use Rattle.demand3.proofs.Requests.{DownClosed, down-closed}
 use Rattle.demand3.proofs.Closed.{closed-none, host-none, portdown-none, reduction-none}
 
@@ -34,6 +34,34 @@ unfolding Starts
 few-starts t true l p f few fits = (fits, inl few)
 few-starts t false l p f few fits = inl few
 
+-- ---- the first four, of a build that meets the claim
+module _ (b : Build) (c : Claim b) (t : Tables) (first : ℕ) (started : b .start t first .number ≡ 0) (xs ys : List Call) (p : ℕ) (others : NoneNames t ys p) where
+  line : linesBy b t first (xs ++ ys) p ≡ linesBy b t first xs p
+  line = c .others-keep t first started xs ys p others
+
+  wanted : (f : Flow) → Wanted t (linesBy b t first xs) p f → Wanted t (linesBy b t first (xs ++ ys)) p f
+  wanted f w =
+      record {
+        port = w .port;
+        is-listed = w .is-listed;
+        is-up = ap (λ (x : Line). x .isUp) line ∙ w .is-up;
+        idle = ap (λ (x : Line). holds f (x .flows)) line ∙ w .idle;
+      }
+
+  first-four : FirstFour b t first xs ys p
+  first-four =
+      let d = c .holds-after t first started (xs ++ ys) in
+      record {
+        line = line;
+        join-starts = λ f room few fits w white large.
+            d .joins p f room (wanted f w) white large .0 .1
+            (few-starts t (t .whiteCac) (linesBy b t first (xs ++ ys)) p f
+            (subst (λ (x : Line). length (x .flows) < 4) (sym line) few)
+            (subst (λ (x : Line). charges t x + rateOf t f ≤ x .delegation) (sym line) fits));
+        add-starts = λ m room f before rest reaches few fits large.
+            d .adds m room p f before rest reaches large .1 (few-starts t (t .addCac) _ p f few fits);
+      }
+
 module _ (t : Tables) (first : ℕ) (started : startedOf t first .number ≡ 0) where
   taken : TablesTaken t
   taken = agree-fresh t first started .0
@@ -41,34 +69,6 @@ module _ (t : Tables) (first : ℕ) (started : startedOf t first .number ≡ 0) 
   -- card and ledger after any list of calls
   after : (xs : List Call) → Agree t (cardOf t first xs) (linesOf t first xs)
   after xs = calls-agree t taken xs (startedOf t first .card) opened (agree-fresh t first started .1)
-
-  -- ---- the first four
-  module _ (xs ys : List Call) (p : ℕ) (others : NoneNames t ys p) where
-    line : linesOf t first (xs ++ ys) p ≡ linesOf t first xs p
-    line = lines-kept t taken p xs ys (startedOf t first .card) opened (agree-fresh t first started .1) others
-
-    wanted : (f : Flow) → Wanted t (linesOf t first xs) p f → Wanted t (linesOf t first (xs ++ ys)) p f
-    wanted f w =
-        record {
-          port = w .port;
-          is-listed = w .is-listed;
-          is-up = ap (λ (x : Line). x .isUp) line ∙ w .is-up;
-          idle = ap (λ (x : Line). holds f (x .flows)) line ∙ w .idle;
-        }
-
-    first-four : FirstFour t first xs ys p
-    first-four =
-        let d = claim .holds-after t first started (xs ++ ys) in
-        record {
-          line = line;
-          join-starts = λ f room few fits w white large.
-              d .joins p f room (wanted f w) white large .0 .1
-              (few-starts t (t .whiteCac) (linesOf t first (xs ++ ys)) p f
-              (subst (λ (x : Line). length (x .flows) < 4) (sym line) few)
-              (subst (λ (x : Line). charges t x + rateOf t f ≤ x .delegation) (sym line) fits));
-          add-starts = λ m room f before rest reaches few fits large.
-              d .adds m room p f before rest reaches large .1 (few-starts t (t .addCac) _ p f few fits);
-        }
 
   -- ---- requests
   down-after : (xs : List Call) (p : ℕ) → p < 64 → DownClosed (portAt (cardOf t first xs) p)
@@ -102,7 +102,7 @@ module _ (t : Tables) (first : ℕ) (started : startedOf t first .number ≡ 0) 
 pub corollaries : Corollaries
 corollaries =
     record {
-      first-four = λ t first s xs ys p port others. first-four t first s xs ys p others;
+      first-four = first-four;
       refused = λ t card x a b. call-quiet t card x a b;
       fresh-takes-none = λ t first s p. fresh-none t first s p;
       closed-by-host = λ t first s xs p amount e. host-none t (taken t first s) _ _ (after t first s xs) p amount e;

@@ -14,18 +14,24 @@ use Rattle.flow_octets.specs.FlowOctets.{flowTlv}
 use Rattle.circuits.specs.Circuits.{idAt}
 use Rattle.rows.specs.declared.Found.the-variants.{At}
 use Rattle.card.specs.Cards.{Card}
-use Rattle.demand3.specs.Calls.{Tables, Call, ours, outcomeOf, startedOf, cardAfter, history, byCall}
+use Rattle.demand3.specs.Calls.{Tables, Call, Build, ours, outcomeOf, startedOf, cardAfter, history, byCall}
 use Rattle.demand3.specs.Calls.Call.{portDown, setDelegation, join, message}
 use Rattle.demand3.specs.Reads.{kindIn, resultIn, portIn, rateOf, isWhite, NoneNames}
 use Rattle.demand3.specs.Ledger.{Ledger, opened, ledgerFrom}
-use Rattle.demand3.specs.Claim.{charges, Wanted, Sound, Reaches, behind, Acted}
+use Rattle.demand3.specs.Claim.{charges, Wanted, Sound, Reaches, behind, Acted, Claim}
 
--- after a list of calls from a start that was taken
+-- card and ledger after a list of calls from a start, by any build; and by ours
+abbrev pub cardBy : Build → Tables → ℕ → List Call → Card
+cardBy b t first calls = cardAfter b t (b .start t first .card) calls
+
+abbrev pub linesBy : Build → Tables → ℕ → List Call → Ledger
+linesBy b t first calls = ledgerFrom t opened (history b t (b .start t first .card) calls)
+
 abbrev pub cardOf : Tables → ℕ → List Call → Card
-cardOf t first calls = cardAfter ours t (startedOf t first .card) calls
+cardOf t first calls = cardBy ours t first calls
 
 abbrev pub linesOf : Tables → ℕ → List Call → Ledger
-linesOf t first calls = ledgerFrom t opened (history ours t (startedOf t first .card) calls)
+linesOf t first calls = linesBy ours t first calls
 
 -- the rate of f fits beside what port p's line charges
 abbrev pub Fits : Tables → Ledger → ℕ → Flow → Type 0
@@ -33,14 +39,14 @@ Fits t l p f = charges t (l p) + rateOf t f ≤ l p .delegation
 
 -- "Whatever the calls for other ports do, they cannot take the first four": calls that name other ports leave the port's line as it is,
 -- and behind them, with under 4 flows and a rate that fits, a white-listed join and an Add that is reached start
-pub record FirstFour (t : Tables) (first : ℕ) (xs ys : List Call) (p : ℕ) : Type 0 where
-  pub line : linesOf t first (xs ++ ys) p ≡ linesOf t first xs p
-  pub join-starts : (f : Flow) (room : ℕ) → length (linesOf t first xs p .flows) < 4 → Fits t (linesOf t first xs) p f
-      → Wanted t (linesOf t first xs) p f → isWhite t f → 4608 ≤ room
-      → outcomeOf t (cardOf t first (xs ++ ys)) (join p f room) .number ≡ 0
-  pub add-starts : (m : List ℕ) (room : ℕ) (f : Flow) (before after : List (List ℕ)) → Reaches t (linesOf t first (xs ++ ys)) m p f before after
-      → length (behind t (linesOf t first (xs ++ ys)) p before p .flows) < 4 → Fits t (behind t (linesOf t first (xs ++ ys)) p before) p f
-      → 4608 ≤ room → Acted (outcomeOf t (cardOf t first (xs ++ ys)) (message m room)) m (suc (length before))
+pub record FirstFour (b : Build) (t : Tables) (first : ℕ) (xs ys : List Call) (p : ℕ) : Type 0 where
+  pub line : linesBy b t first (xs ++ ys) p ≡ linesBy b t first xs p
+  pub join-starts : (f : Flow) (room : ℕ) → length (linesBy b t first xs p .flows) < 4 → Fits t (linesBy b t first xs) p f
+      → Wanted t (linesBy b t first xs) p f → isWhite t f → 4608 ≤ room
+      → b .outcome t (cardBy b t first (xs ++ ys)) (join p f room) .number ≡ 0
+  pub add-starts : (m : List ℕ) (room : ℕ) (f : Flow) (before after : List (List ℕ)) → Reaches t (linesBy b t first (xs ++ ys)) m p f before after
+      → length (behind t (linesBy b t first (xs ++ ys)) p before p .flows) < 4 → Fits t (behind t (linesBy b t first (xs ++ ys)) p before) p f
+      → 4608 ≤ room → Acted (b .outcome t (cardBy b t first (xs ++ ys)) (message m room)) m (suc (length before))
 
 -- on this card no Bandwidth Transfer (147) for port p is taken
 abbrev pub TakesNone : Tables → Card → ℕ → Type 0
@@ -67,8 +73,9 @@ abbrev pub listReply : Tables → List ℕ → ℕ → List Flow → List ℕ
 listReply t m p fs = messageOf (replyHeader (headerIn m) 149 3 0) (targetOf (idAt (t .ids) p) ++ flatMap flowTlv fs)
 
 pub record Corollaries : Type 0 where
-  pub first-four : (t : Tables) (first : ℕ) → startedOf t first .number ≡ 0 → (xs ys : List Call) (p : ℕ) → p < t .ports
-      → NoneNames t ys p → FirstFour t first xs ys p
+  -- of every build that meets the claim, and so of ours
+  pub first-four : (b : Build) → Claim b → (t : Tables) (first : ℕ) → b .start t first .number ≡ 0 → (xs ys : List Call) (p : ℕ)
+      → NoneNames t ys p → FirstFour b t first xs ys p
   -- a refused call, any number but 0 and 2, changes nothing and writes nothing, on any card
   pub refused : (t : Tables) (card : Card) (x : Call) → (outcomeOf t card x .number ≡ 0 → ⊥) → (outcomeOf t card x .number ≡ 2 → ⊥)
       → (outcomeOf t card x .card ≡ card) × (outcomeOf t card x .reply ≡ [])
