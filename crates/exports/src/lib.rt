@@ -8,15 +8,12 @@ use pool::Rows;
 ghost use mathlib.Core.Path.{_≡_};
 ghost use mathlib.Core.List.{List};
 ghost use Prim.Native.Nat.{ℕ};
-ghost use lib.ListN.{length};
 ghost use Rattle.card.specs.Cards.{Areas, noAreas, cardOf};
 ghost use Rattle.pool.specs.Pool.{extrasOf, listed};
 ghost use Rattle.card.specs.Start.{startOf, StartGives};
 ghost use Rattle.card.specs.Figures.{upOf, delegationOf, committedAt};
 ghost use Rattle.listing.specs.Listing.{flowsAt, activeAt};
-ghost use Rattle.demand3.specs.Calls.{outcomeOf};
-ghost use Rattle.calls.specs.Calls.{tablesOf, callOf};
-ghost use Rattle.exports.specs.Answers.{Answers};
+ghost use Rattle.exports.specs.Answers.{CallDoes};
 
 // ---- start
 
@@ -68,7 +65,7 @@ pub extern "C" fn ancp_card_call(
     octets: &[u8],
     reply: &mut [u8],
 ) -> Answer
-    ensures { λ r. ⌜ Answers (outcomeOf (tablesOf (cardOf (now (core .entry)) noAreas) (now (ids .entry)) (now (channels .entry)) (now (entries .entry))) (cardOf (now (core .entry)) noAreas) (callOf (now (call .entry)) (now (octets .entry)) (length (now (reply .entry))))) r (cardOf (now (core .exit)) noAreas) (now (reply .entry)) (now (reply .exit)) ⌝ }
+    ensures { λ r. ⌜ CallDoes (now (ids .entry)) (now (channels .entry)) (now (entries .entry)) (cardOf (now (core .entry)) noAreas) (now (call .entry)) (now (octets .entry)) r (cardOf (now (core .exit)) noAreas) (now (reply .entry)) (now (reply .exit)) ⌝ }
 {
     let call = *call;
     let head = core.head;
