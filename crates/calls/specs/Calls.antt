@@ -3,9 +3,10 @@ use Prim.Native.Nat.{ℕ}
 use mathlib.Core.Path.{_≡_}
 use mathlib.Core.Bool.{cond}
 use mathlib.Core.List.{List}
-use lib.ListN.{length}
+use lib.ListN.{length, replicate}
 use lib.Dec.{eqb, ltb}
 use Rattle.octets.specs.Writing.{over}
+use Rattle.flows.specs.declared.Flow.{Flow}
 use Rattle.card.specs.declared.Returned.{Returned}
 use Rattle.card.specs.Cards.{Card, Areas, coreOf}
 use Rattle.card.specs.Outcome.{Outcome}
@@ -27,6 +28,10 @@ tablesOf card ids channels entries =
       whiteCac = card .head .«white_cac»;
       addCac = card .head .«add_cac»;
     }
+
+-- the flow of a call that has none
+abbrev pub noFlow : Flow
+noFlow = record { family = 0; sourced = 0; group = replicate 4 0; source = replicate 4 0 }
 
 -- the host's call of number n; `room` is how many octets the lent reply buffer has
 unfoldable pub hosted : ℕ → HostCall → ℕ → Call

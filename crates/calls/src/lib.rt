@@ -15,7 +15,7 @@ ghost use Rattle.pool.specs.Pool.{poolOf, Whole};
 ghost use Rattle.card.specs.Cards.{noAreas, cardOf};
 ghost use Rattle.card.specs.Parts.{termsOf, AreasComeTo};
 ghost use Rattle.demand3.specs.Calls.{outcomeOf};
-ghost use Rattle.calls.specs.Calls.{tablesOf, hosted, callOf, portAbout, CallGives};
+ghost use Rattle.calls.specs.Calls.{tablesOf, noFlow, hosted, callOf, portAbout, CallGives};
 
 // The numbers of the calls; those of the host go from 0 on, and every number behind them is a message.
 pub const PORT_UP: u8 = 0;
@@ -44,7 +44,7 @@ pub struct HostCall {
 
 // A call about a port, and one about a flow of it; a message has neither.
 pub fn on_port(which: u8, port: usize, amount: u32, preferred: u32) -> HostCall
-    ensures { λ r. ⌜ (r .which ≡ which) × (r .port ≡ port) × (r .amount ≡ amount) × (r .preferred ≡ preferred) ⌝ }
+    ensures { λ r. ⌜ r ≡ record { which = which; port = port; amount = amount; preferred = preferred; flow = noFlow } ⌝ }
 {
     let flow = Flow {
         family: 0,
