@@ -2,8 +2,8 @@
 -- Assumes nothing: these are definitions.
 use Prim.Native.Nat.{ℕ, zero, suc, _+_, _-_, _<_}
 use mathlib.Core.Path.{_≡_}
-use mathlib.Core.Bool.{Bool, cond}
-use mathlib.Core.List.{List, [], _∷_}
+use mathlib.Core.Bool.{Bool, true, cond}
+use mathlib.Core.List.{[], _∷_}
 use lib.Dec.{leb}
 use Rattle.octets.specs.Tests.{every}
 use Rattle.ports.specs.Transactions.{nextNumber}
@@ -25,3 +25,14 @@ numbersLeft n limit = cond (leb n limit) (limit - n) (limit + 16777215 - n)
 pub record Left (n limit k : ℕ) : Type 0 where
   pub reached : numberAfter n k ≡ limit
   pub before : (j : ℕ) → j < k → numberAfter n j ≡ limit → ⊥
+
+-- what a host gets: 0, which no message has, where what it gives is no transaction number
+unfoldable pub afterOf : ℕ → ℕ → ℕ
+afterOf number by = cond (isNumber number) (numberAfter number by) 0
+
+unfoldable pub leftOf : ℕ → ℕ → ℕ
+leftOf number limit = cond (every (isNumber number ∷ isNumber limit ∷ [])) (numbersLeft number limit) 0
+
+pub record Counted (number limit r : ℕ) : Type 0 where
+  pub is : r ≡ leftOf number limit
+  pub left : isNumber number ≡ true → isNumber limit ≡ true → Left number limit r
