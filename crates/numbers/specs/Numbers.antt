@@ -17,7 +17,7 @@ unfoldable pub numberAfter : ℕ → ℕ → ℕ
 numberAfter n zero = n
 numberAfter n (suc k) = numberAfter (nextNumber n) k
 
--- how many numbers from n on, around the circle, come before limit; `Left` says that it is this
+-- how many numbers from n on, around the circle, come before limit; `Left` says that it is this (no `-` here goes below 0)
 unfoldable pub numbersLeft : ℕ → ℕ → ℕ
 numbersLeft n limit = cond (leb n limit) (limit - n) (limit + 16777215 - n)
 
@@ -33,6 +33,7 @@ afterOf number by = cond (isNumber number) (numberAfter number by) 0
 unfoldable pub leftOf : ℕ → ℕ → ℕ
 leftOf number limit = cond (every (isNumber number ∷ isNumber limit ∷ [])) (numbersLeft number limit) 0
 
+-- the count that a host gets, and what it says where both are transaction numbers
 pub record Counted (number limit r : ℕ) : Type 0 where
   pub is : r ≡ leftOf number limit
   pub left : isNumber number ≡ true → isNumber limit ≡ true → Left number limit r
