@@ -17,7 +17,8 @@ unfoldable pub numberAfter : ℕ → ℕ → ℕ
 numberAfter n zero = n
 numberAfter n (suc k) = numberAfter (nextNumber n) k
 
--- how many numbers from n on, around the circle, come before limit; `Left` says that it is this (no `-` here goes below 0)
+-- how many numbers from n on, around the circle, come before limit; `Left` says that it is this.
+-- Of transaction numbers no `-` stops at 0.
 unfoldable pub numbersLeft : ℕ → ℕ → ℕ
 numbersLeft n limit = cond (leb n limit) (limit - n) (limit + 16777215 - n)
 
