@@ -4,7 +4,7 @@
    as the last call left it, lends the same tables that it gave to ancp_card_start, and lets nobody else write either; card, tables, message and
    reply buffer do not overlap. Everything else that is wrong gets its number.
 
-   Across a restart: store ancp_card_next_transaction, and give a first transaction number that is not in use to the next start.
+   Across a restart no transaction number may come out twice as long as a server may still answer: see "a restart" below.
 
    Link with libancp_card.a (`make -C host` makes it by `rt staticlib exports`), whose functions are proved; the inline functions here only hand the
    arguments on. */
@@ -119,6 +119,24 @@ ancp_rows ancp_card_flows_in(ancp_core core, const uint32_t *channels, size_t p)
 bool ancp_card_active_in(ancp_core core, const uint32_t *channels, size_t p, ancp_flow f);
 size_t ancp_card_extras_in(ancp_core core);
 uint32_t ancp_card_next_in(ancp_core core);
+
+/* ---- a restart
+   An old grant must not answer a new question: a number that may have been sent must not be sent again, also not by the card
+   of the next start, as long as a server may still answer. So what is stored is stored BEFORE a message is sent. A host that
+   cannot write its flash at each grey join keeps a limit there: no number from the limit on has been sent.
+   - At start: take the stored limit as `first`, and store ancp_number_after(limit, BLOCK), the new limit, before
+     ancp_card_start. On a new card the first number is 1.
+   - Before each join and each ask (they alone take a number, one each), when few are left, and always when
+     ancp_numbers_left(ancp_card_next_transaction(&card), limit) is 0: store the limit moved on by a block, then call.
+   The circle has 16,777,215 numbers; a restart skips those that are left. host/example.c does this with a file. */
+
+/* The number `by` places after `number`; after 16,777,215 comes 1. 0 where `number` is no transaction number (0, or above
+   16,777,215). */
+uint32_t ancp_number_after(uint32_t number, uint32_t by);
+
+/* How many numbers from `number` on, around the circle, come before `limit`: 0 where they are equal, or where one of them is
+   no transaction number. */
+uint32_t ancp_numbers_left(uint32_t number, uint32_t limit);
 
 /* ---- for the host. Each call updates *card and returns its number; `length` gets how many octets of reply are written, and beyond them the
    buffer is kept. Numbers 1 and 3 to 16 keep card and buffer. */

@@ -13,6 +13,7 @@ ghost use Rattle.pool.specs.Pool.{extrasOf, listed};
 ghost use Rattle.card.specs.Start.{startOf, StartGives};
 ghost use Rattle.card.specs.Figures.{upOf, delegationOf, committedAt};
 ghost use Rattle.listing.specs.Listing.{flowsAt, activeAt};
+ghost use Rattle.numbers.specs.Numbers.{afterOf, Counted};
 ghost use Rattle.exports.specs.Answers.{CallDoes};
 
 // ---- start
@@ -145,4 +146,20 @@ pub extern "C" fn ancp_card_next_in(core: Core) -> u32
     ensures { λ r. ⌜ r ≡ core .head .counter .number ⌝ }
 {
     card::next_transaction(core)
+}
+
+// ---- the circle of transaction numbers, for a restart
+
+#[no_mangle]
+pub extern "C" fn ancp_number_after(number: u32, by: u32) -> u32
+    ensures { λ r. ⌜ r ≡ afterOf number by ⌝ }
+{
+    numbers::number_after(number, by)
+}
+
+#[no_mangle]
+pub extern "C" fn ancp_numbers_left(number: u32, limit: u32) -> u32
+    ensures { λ r. ⌜ Counted number limit r ⌝ }
+{
+    numbers::numbers_left(number, limit)
 }
