@@ -90,13 +90,13 @@ module _ (t : Tables) (card : Card) (x : Call) where
   way-counter : (o : Outcome) → Way t card x o → Counted (o .card)
   unfolding greyOf askedOf controlled transferGives
   way-counter o (stays n) = inl refl
-  way-counter o (replies reply) = inl refl
+  way-counter o (replies reply w) = inl refl
   way-counter o (rises p) = inl refl
   way-counter o (falls p) = inl refl
   way-counter o (sets p amount) = inl refl
   way-counter o (closes p) = inl refl
   way-counter o (reduces h p amount) = inl refl
-  way-counter o (asks p required preferred room e u) = inr refl
+  way-counter o (asks p required preferred room e h u) = inr refl
   way-counter o (beside card′ e n) = inl n
   way-counter o (commanded h p s) = inl (commands-keep (λ c. c .head .counter) (λ c pool. refl) (t .channels) p h (idAt (t .ids) p) card 1 (commandsIn s))
   way-counter o (grey p f room e) = inr refl

@@ -58,13 +58,13 @@ module _ (t : Tables) (taken : TablesTaken t) (p : ℕ) (below : p < 64) (R : Po
     way-keeps : (x : Call) → Opens x → (o : Outcome) → Way t card x o → R (portAt (o .card) p)
     unfolding greyOf askedOf controlled transferGives
     way-keeps x n o (stays k) = r
-    way-keeps x n o (replies reply) = r
+    way-keeps x n o (replies reply w) = r
     way-keeps x n o (rises q) = written q _ (λ e. s .rise (portAt card q))
     way-keeps x n o (falls q) = written q _ (λ e. s .fall (portAt card q))
     way-keeps x n o (sets q amount) = written q _ (λ e. s .give (portAt card q) amount)
     way-keeps x n o (closes q) = written q _ (λ e. s .close (portAt card q))
     way-keeps x n o (reduces h q amount) = written q _ (λ e. s .give (portAt card q) amount)
-    way-keeps x n o (asks q required preferred room is up) =
+    way-keeps x n o (asks q required preferred room is has up) =
         written q _ (λ e z. n q required preferred room is e (portAt card q) up (takenFrom (card .head .counter) .number))
     way-keeps x n o (beside card′ e m) = subst (λ (ps : List Port). R (getD ps p freshPort)) (sym e) r
     way-keeps x n o (commanded h q w) =

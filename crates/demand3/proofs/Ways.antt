@@ -1,9 +1,10 @@
 -- What a call comes to on any card: the ends that there are (`Way`), and those of each call (`up-way`, ..). Assumes
 -- nothing.
 use Prim.Native.Nat.{ℕ}
-use mathlib.Core.Path.{_≡_, refl}
+use mathlib.Core.Path.{_≡_, refl, sym, _∙_}
 use mathlib.Core.Bool.{Bool, true, false, cond}
 use mathlib.Core.List.{List}
+use native.Mathlib.Omega.{arith}
 use lib.ListN.{drop}
 use lib.Dec.{eqb, leb, ltb}
 use Rattle.header.specs.declared.Header.{Header}
@@ -23,26 +24,38 @@ use Rattle.card.specs.Outcome.{Outcome, keeps, becomes, writes}
 use Rattle.card.specs.Calls.{portUpOf, portDownOf, setDelegationOf, leaveFlow, leaveOf}
 use Rattle.joins.specs.Joins.{admitNumber, whiteOf, greyOf, byList, joinRow, joinOf}
 use Rattle.joins.specs.Asks.{askedOf, askOf}
+use Rattle.circuits.specs.Circuits.{idAt}
+use Rattle.checks.specs.Table.{enclosedOf}
 use Rattle.control.specs.Control.{controlled}
 use Rattle.transfers.specs.Transfers.{transferFails, transferGives, transferred}
 use Rattle.messages.specs.Messages.{receivedOf}
 use Rattle.demand3.specs.Calls.{Tables, Call, outcomeOf}
 use Rattle.demand3.specs.Calls.Call.{portUp, portDown, setDelegation, join, leave, ask, message}
-use Rattle.demand3.proofs.Views.{Came, kept, notice, refused, ordered, reduced, queried, answered, came}
+use Rattle.demand3.specs.Reads.{kindIn}
+use Rattle.demand3.proofs.Replies.{kind-refusal, kind-amount}
+use Rattle.demand3.proofs.Views.{Other, Came, kept, notice, refused, ordered, reduced, queried, answered, came}
 use Rattle.demand3.proofs.Transfers.{Reallocation, fails, gives, reallocation}
+
+-- neither Admission Control (145) nor Bandwidth Reallocation Request (146): the card did not begin it
+abbrev pub NotBegun : List ℕ → Type 0
+NotBegun w = Other (kindIn w) 145 × Other (kindIn w) 146
+
+pub other-type : (w : List ℕ) {kind : ℕ} → Other kind 145 → Other kind 146 → kindIn w ≡ kind → NotBegun w
+other-type w a b e = (λ k. a (sym e ∙ k), λ k. b (sym e ∙ k))
 
 module _ (t : Tables) (card : Card) (x : Call) where
   pub data Way : Outcome → Type 0 where
     -- the card is kept: nothing is written, or a reply
     stays : (n : ℕ) → Way (keeps card n)
-    replies : (reply : List ℕ) → Way (writes card reply)
+    replies : (reply : List ℕ) → NotBegun reply → Way (writes card reply)
     -- one port's record changes
     rises : (p : ℕ) → Way (becomes (withPort card p (broughtUp (portAt card p))))
     falls : (p : ℕ) → Way (becomes (withPool (withPort card p (takenDown (portAt card p))) (endedAll (card .pool) p)))
     sets : (p amount : ℕ) → Way (becomes (withPort card p (delegated (portAt card p) amount)))
     closes : (p : ℕ) → Way (becomes (withPort card p (closed (portAt card p))))
     reduces : (h : Header) (p amount : ℕ) → Way (transferGives (t .ids) card h p amount)
-    asks : (p required preferred room : ℕ) → x ≡ ask p required preferred room → portAt card p .up ≡ true → Way (askedOf (t .ids) card p required preferred)
+    asks : (p required preferred room : ℕ) → x ≡ ask p required preferred room → hasPort card p ≡ true → portAt card p .up ≡ true
+        → Way (askedOf (t .ids) card p required preferred)
     -- no port's record changes: flows begin or end, by the host or by commands
     beside : (card′ : Card) → card′ .ports ≡ card .ports → card′ .head .counter ≡ card .head .counter → Way (becomes card′)
     commanded : (h : Header) (p : ℕ) (s : List ℕ) → Way (controlled (t .ids) (t .channels) card h p s)
@@ -72,7 +85,7 @@ module _ (t : Tables) (card : Card) (x : Call) where
 
   reduced-way : (h : Header) (p : ℕ) (o : Outcome) → Reallocation (t .ids) (t .channels) card h p o → Way o
   unfolding transferFails
-  reduced-way h p o (fails code) = replies _
+  reduced-way h p o (fails code) = replies _ (other-type _ (λ e. omega arith) (λ e. omega arith) (kind-amount h 147 4 code (idAt (t .ids) p) (portAt card p .delegation)))
   reduced-way h p o (gives amount) = reduces h p amount
 
   transferred-way : (h : Header) (p amount : ℕ) → Way (transferred card h p amount)
@@ -86,10 +99,10 @@ module _ (t : Tables) (card : Card) (x : Call) where
   came-way : (m : List ℕ) (o : Outcome) → Came (t .ids) (t .channels) card m o → Way o
   came-way m o (kept n z) = stays n
   came-way m o (notice k r) = stays 0
-  came-way m o (refused code n) = replies _
+  came-way m o (refused code n) = replies _ (other-type _ (λ e. omega arith) (λ e. omega arith) (kind-refusal (headerIn m) code (enclosedOf (headerIn m .kind) (drop 16 m) code)))
   came-way m o (ordered p k s) = commanded (headerIn m) p (drop 16 m)
   came-way m o (reduced p k s) = reduced-way (headerIn m) p _ (reallocation (t .ids) (t .channels) card (headerIn m) p _)
-  came-way m o (queried reply g n e) = replies reply
+  came-way m o (queried reply q e) = replies reply (other-type reply (λ k. omega arith) (λ k. omega arith) e)
   came-way m o (answered p k a s) = transferred-way (headerIn m) p _
 
   -- ---- the calls
@@ -132,7 +145,7 @@ module _ (t : Tables) (card : Card) (x : Call) where
         by (ltb room 4608) _ _ (λ r. stays 13)
         (by (hasPort card p) _ _
         (λ h. by (portAt card p .up) _ _
-        (λ u. by (mayAsk (portAt card p) required preferred) _ _ (λ m. asks p required preferred room e u) (stays 12))
+        (λ u. by (mayAsk (portAt card p) required preferred) _ _ (λ m. asks p required preferred room e h u) (stays 12))
         (stays 6))
         (stays 7))
 
