@@ -6,7 +6,7 @@
 use Prim.Native.Nat.{ℕ, _<_}
 use mathlib.Core.Path.{_≡_, refl, sym, ap, subst, _∙_}
 use mathlib.Core.Bool.{Bool, true, false, cond, false≢true}
-use mathlib.Core.List.{List, [], _∷_, _++_, map}
+use mathlib.Core.List.{List, [], _∷_, _++_}
 use native.Mathlib.Omega.{arith}
 use lib.ListN.{getD, drop}
 use lib.Seq.{getD-set-other}
@@ -34,7 +34,7 @@ use Rattle.checks.specs.Table.{idIn}
 use Rattle.control.specs.Control.{controlled}
 use Rattle.transfers.specs.Transfers.{transferGives, transferred}
 use Rattle.messages.specs.Messages.{receivedOf}
-use Rattle.demand3.specs.Calls.{Tables, Call, Seen, ours, outcomeOf, cardAfter, seen, history}
+use Rattle.demand3.specs.Calls.{Tables, Call, ours, outcomeOf, cardAfter, seen, history}
 use Rattle.demand3.specs.Calls.Call.{message}
 use Rattle.demand3.specs.Reads.{kindIn, portIn}
 use Rattle.demand3.specs.Ledger.{Ledger, entered}
@@ -46,7 +46,7 @@ use Rattle.demand3.proofs.Transfers.{at-eq}
 use Rattle.demand3.proofs.Ways.{NotBegun, other-type, Way, stays, replies, rises, falls, sets, closes, reduces, asks, beside, commanded, grey}
 use Rattle.demand3.proofs.Each.{call-way, call-step}
 use Rattle.demand3.proofs.Counter.{InRange, call-range}
-use Rattle.grants.specs.Grants.{transactionIn, IsRequest, NoRequest, LastRequest}
+use Rattle.grants.specs.Grants.{writtenFrom, transactionIn, IsRequest, NoRequest, LastRequest}
 use Rattle.grants.proofs.Numbers.{silent, number-back, commands-silent, commands-kept}
 
 -- ---- one call
@@ -154,9 +154,6 @@ pub data Since (t : Tables) (p : ℕ) (card : Card) (n : ℕ) (ws : List (List �
   last-in : LastRequest t p n ws → Since t p card n ws
 
 module _ (t : Tables) (taken : TablesTaken t) (p : ℕ) (below : p < 64) where
-  abbrev wrote : Card → List Call → List (List ℕ)
-  wrote card xs = map (λ (s : Seen). s .reply) (history ours t card xs)
-
   earlier : (n : ℕ) (w : List ℕ) (ws : List (List ℕ)) → LastRequest t p n ws → LastRequest t p n (w ∷ ws)
   earlier n w ws k =
       record {
@@ -182,12 +179,12 @@ module _ (t : Tables) (taken : TablesTaken t) (p : ℕ) (below : p < 64) where
     since-call (last-in k) = last-in (earlier n _ ws k)
 
   pub calls-last : (xs : List Call) (card : Card) (l : Ledger) → Agree t card l → InRange card
-      → portAt (cardAfter ours t card xs) p .asking ≡ true → Since t p card (portAt (cardAfter ours t card xs) p .transaction) (wrote card xs)
+      → portAt (cardAfter ours t card xs) p .asking ≡ true → Since t p card (portAt (cardAfter ours t card xs) p .transaction) (writtenFrom t card xs)
   unfolding cardAfter history NoRequest
   calls-last [] card l a range e = open-since e refl tt
   calls-last (x ∷ xs) card l a range e =
       let next : Card = outcomeOf t card x .card in
-      since-call card l a range x (portAt (cardAfter ours t next xs) p .transaction) (wrote next xs)
+      since-call card l a range x (portAt (cardAfter ours t next xs) p .transaction) (writtenFrom t next xs)
       (calls-last xs next (entered t l (seen ours t card x)) (call-step t taken card l a x) (call-range t card x range) e)
 
 -- ---- a 147 that is taken

@@ -4,10 +4,11 @@
 -- Assumes nothing.
 use Prim.Native.Nat.{ℕ, zero, suc, _+_, _≤_, _<_}
 use mathlib.Core.Path.{_≡_, refl, sym, ap, subst}
-use mathlib.Core.Bool.{Bool, true, false, cond}
-use mathlib.Core.List.{List, [], _∷_, _++_, map}
+use mathlib.Core.Bool.{Bool, true, false, cond, _||_}
+use mathlib.Core.List.{List, [], _∷_, _++_}
 use native.Mathlib.Omega.{arith}
 use lib.ListN.{length, getD}
+use lib.Dec.{eqb}
 use borrow.Author.Tests.{ne-eqb}
 use Rattle.header.specs.declared.Header.{Header}
 use Rattle.header.specs.Header.{messageOf}
@@ -27,30 +28,30 @@ use Rattle.joins.specs.Asks.{askedOf}
 use Rattle.control.specs.Control.{commandsIn, controlled}
 use Rattle.transfers.specs.Transfers.{transferGives}
 use Rattle.numbers.specs.Numbers.{numberAfter}
-use Rattle.demand3.specs.Calls.{Tables, Call, Seen, ours, outcomeOf, cardAfter, history}
+use Rattle.demand3.specs.Calls.{Tables, Call, ours, outcomeOf, cardAfter, history}
 use Rattle.demand3.specs.Reads.{kindIn}
 use Rattle.demand3.proofs.Replies.{kind-none, kind-back, kind-amount}
 use Rattle.demand3.proofs.Commands.{commands-tell}
 use Rattle.demand3.proofs.Ways.{NotBegun, other-type, Way, stays, replies, rises, falls, sets, closes, reduces, asks, beside, commanded, grey}
 use Rattle.demand3.proofs.Each.{call-way}
 use Rattle.demand3.proofs.Counter.{commands-keep, InRange, call-range}
-use Rattle.grants.specs.Grants.{transactionIn, isBegun, numbersOf, Stretch}
+use Rattle.grants.specs.Grants.{writtenFrom, transactionIn, isBegun, numbersOf, Stretch}
 
 -- ---- what is begun, and what is not
 pub silent : NotBegun []
 silent = other-type [] (λ e. omega arith) (λ e. omega arith) kind-none
 
-not-begun : (w : List ℕ) → NotBegun w → isBegun w ≡ false
-unfolding isBegun
-not-begun w n = rw (ne-eqb (kindIn w) 145 (n .0), ne-eqb (kindIn w) 146 (n .1))
-
 pub begun-146 : (w : List ℕ) → kindIn w ≡ 146 → isBegun w ≡ true
 unfolding isBegun
-begun-146 w e = rw e
+begun-146 w e = subst (λ (k : ℕ). (eqb k 145 || eqb k 146) ≡ true) (sym e) refl
 
 begun-145 : (w : List ℕ) → kindIn w ≡ 145 → isBegun w ≡ true
 unfolding isBegun
-begun-145 w e = rw e
+begun-145 w e = subst (λ (k : ℕ). (eqb k 145 || eqb k 146) ≡ true) (sym e) refl
+
+not-begun : (w : List ℕ) → NotBegun w → isBegun w ≡ false
+unfolding isBegun
+not-begun w n = rw (ne-eqb (kindIn w) 145 (n .0), ne-eqb (kindIn w) 146 (n .1))
 
 -- the transaction number of a message that the card begins
 pub number-back : (kind n : ℕ) (body : List ℕ) → n ≤ 16777215 → transactionIn (messageOf (beginHeader kind n) body) ≡ n
@@ -129,7 +130,7 @@ joined card o present ns (one n e k) s =
 
 module _ (t : Tables) where
   abbrev numbersFrom : Card → List Call → List ℕ
-  numbersFrom card xs = numbersOf (map (λ (s : Seen). s .reply) (history ours t card xs))
+  numbersFrom card xs = numbersOf (writtenFrom t card xs)
 
   pub calls-stretch : (xs : List Call) (card : Card) → InRange card → Stretch (numberAt card) (numberAt (cardAfter ours t card xs)) (numbersFrom card xs)
   unfolding cardAfter history numbersOf

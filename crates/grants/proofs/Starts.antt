@@ -1,8 +1,8 @@
 -- From a start that is taken, and from two.
---     last-of, stretch-of, differ-of      one start
---     apart-of, restart-of                two starts
+--     last-of, once-of, stretch-of, differ-of     one start
+--     apart-of, restart-of                        two starts
 -- Assumes nothing.
-use Prim.Native.Nat.{ℕ, suc, _+_, _-_, _≤_, _<_}
+use Prim.Native.Nat.{ℕ, suc, _+_, _-_, _<_}
 use mathlib.Core.Path.{_≡_, refl, sym, ap, subst, _∙_}
 use mathlib.Core.Bool.{Bool, true, false, cond, false≢true}
 use mathlib.Core.List.{List, [], _∷_, _++_}
@@ -10,16 +10,19 @@ use mathlib.Core.Logic.{_⊎_, inl, inr, ⊎-elim}
 use native.Mathlib.Omega.{arith}
 use lib.ListN.{length, getD}
 use Rattle.ports.specs.declared.Port.{Port}
+use Rattle.rows.specs.declared.Found.the-variants.{At}
 use Rattle.numbers.specs.Numbers.{numberAfter}
 use Rattle.numbers.proofs.Circle.{after-zero, after-add, after-range, after-apart}
-use Rattle.demand3.specs.Calls.{Tables, Call, startedOf}
+use Rattle.demand3.specs.Calls.{Tables, Call, ours, startedOf, cardAfter}
+use Rattle.demand3.specs.Reads.{portIn}
 use Rattle.demand3.specs.Ledger.{opened}
 use Rattle.demand3.specs.Corollaries.{cardOf}
 use Rattle.demand3.proofs.Fresh.{agree-fresh, started-port}
 use Rattle.demand3.proofs.Calls.{calls-agree}
 use Rattle.demand3.proofs.Counter.{first-counter, first-range, counter-range}
-use Rattle.grants.specs.Grants.{writtenOf, transactionIn, isBegun, numbersOf, begunOf, LastRequest, OwnGrant, Stretch, Among, presentOf, IsTaken, Grants}
+use Rattle.grants.specs.Grants.{writtenFrom, writtenOf, NoRequest, Moved, takenBy, transactionIn, isBegun, numbersOf, begunOf, LastRequest, OwnGrant, Stretch, Among, presentOf, IsTaken, Grants}
 use Rattle.grants.proofs.Numbers.{begun-146, calls-stretch}
+use Rattle.grants.proofs.Once.{taken-once}
 use Rattle.grants.proofs.Last.{Since, open-since, last-in, calls-last, taken-open}
 
 -- ---- one start
@@ -29,7 +32,7 @@ module _ (t : Tables) (first : ℕ) (started : startedOf t first .number ≡ 0) 
   none-open p below n (open-since e k d) = absurd (false≢true (sym (ap (λ (y : Port). y .asking) (started-port t first started p below)) ∙ e))
   none-open p below n (last-in k) = k
 
-  last-of : (m : List ℕ) → IsTaken t first calls m → OwnGrant t m (writtenOf t first calls)
+  last-of : (m : List ℕ) → IsTaken t (cardOf t first calls) m → OwnGrant t m (writtenOf t first calls)
   last-of m k =
       let tables = agree-fresh t first started .0 in
       let agree = agree-fresh t first started .1 in
@@ -41,6 +44,12 @@ module _ (t : Tables) (first : ℕ) (started : startedOf t first .number ≡ 0) 
         last = subst (λ (n : ℕ). LastRequest t (o .p) n (writtenOf t first calls)) (o .number)
             (none-open (o .p) (o .below) _ (calls-last t tables (o .p) (o .below) calls (startedOf t first .card) opened agree (first-range t first started) (o .is-open)));
       }
+
+  once-of : (p : ℕ) (m : List ℕ) → portIn t m ≡ At p → (k : IsTaken t (cardOf t first calls) m) → (more : List Call)
+      → NoRequest t p (writtenFrom t (takenBy k) more) → (n : List ℕ) → portIn t n ≡ At p → IsTaken t (cardAfter ours t (takenBy k) more) n → ⊥
+  once-of p m port k =
+      let s = agree-fresh t first started in
+      taken-once t (s .0) (cardOf t first calls) _ (calls-agree t (s .0) calls (startedOf t first .card) opened (s .1)) (counter-range t first started calls) p m port k
 
   stretch-of : Stretch first (presentOf t first calls) (begunOf t first calls)
   stretch-of =
@@ -95,27 +104,28 @@ placed n (m ∷ ns) k =
 -- ---- two starts
 module _ (t u : Tables) (first second : ℕ) (one : startedOf t first .number ≡ 0) (two : startedOf u second .number ≡ 0) (xs ys : List Call) where
   apart-of : ((n : ℕ) → Among n (begunOf t first xs) → Among n (begunOf u second ys) → ⊥)
-      → (m : List ℕ) → Among (transactionIn m) (begunOf t first xs) → IsTaken u second ys m → ⊥
+      → (m : List ℕ) → Among (transactionIn m) (begunOf t first xs) → IsTaken u (cardOf u second ys) m → ⊥
   apart-of none m old k =
       let a = last-of u second two ys m k in
       none (transactionIn m) old (last-among u (a .p) (transactionIn m) (writtenOf u second ys) (a .last))
 
-  restart-of : (k : ℕ) → second ≡ numberAfter first k → length (begunOf t first xs) ≤ k → k + length (begunOf u second ys) ≤ 16777215
+  restart-of : (k : ℕ) → Moved first second k (length (begunOf t first xs)) (length (begunOf u second ys))
       → (n : ℕ) → Among n (begunOf t first xs) → Among n (begunOf u second ys) → ⊥
-  restart-of k moved most round n a b =
+  restart-of k moved n a b =
       let range = first-counter t first one .1 in
       let i = placed n (begunOf t first xs) a in
       let j = placed n (begunOf u second ys) b in
       let same : numberAfter first (i .at) ≡ numberAfter first (k + j .at)
       = sym (stretch-of t first one xs .each (i .at) (i .below)) ∙ i .is ∙ sym (j .is) ∙ stretch-of u second two ys .each (j .at) (j .below)
-      ∙ ap (λ (m : ℕ). numberAfter m (j .at)) moved ∙ sym (after-add first k (j .at)) in
-      omega (arith, i .below, j .below, after-apart first (range .0) (range .1) (i .at) (k + j .at) (omega (arith, i .below)) (omega (arith, j .below)) same)
+      ∙ ap (λ (m : ℕ). numberAfter m (j .at)) (moved .places) ∙ sym (after-add first k (j .at)) in
+      omega (arith, i .below, moved .past, after-apart first (range .0) (range .1) (i .at) (k + j .at) (omega (arith, i .below, moved .past, moved .round)) (omega (arith, j .below, moved .round)) same)
 
 pub grants : Grants
 grants =
     record {
       range = counter-range;
       last = last-of;
+      once = once-of;
       stretch = stretch-of;
       differ = differ-of;
       apart = apart-of;

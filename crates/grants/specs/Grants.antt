@@ -9,16 +9,21 @@ use lib.ListN.{length, getD}
 use lib.Dec.{eqb}
 use Rattle.header.specs.Header.{headerIn}
 use Rattle.rows.specs.declared.Found.the-variants.{At}
+use Rattle.card.specs.Cards.{Card}
 use Rattle.numbers.specs.Numbers.{numberAfter}
-use Rattle.demand3.specs.Calls.{Tables, Call, Seen, ours, outcomeOf, startedOf, history}
+use Rattle.demand3.specs.Calls.{Tables, Call, Seen, ours, outcomeOf, startedOf, cardAfter, history}
 use Rattle.demand3.specs.Calls.Call.{message}
 use Rattle.demand3.specs.Reads.{kindIn, portIn}
 use Rattle.demand3.specs.Corollaries.{cardOf}
 
--- ---- what a card wrote since a start
+-- ---- what a card wrote
 -- the octets that each call wrote, in order; none where it wrote nothing
+abbrev pub writtenFrom : Tables → Card → List Call → List (List ℕ)
+writtenFrom t card calls = map (λ (s : Seen). s .reply) (history ours t card calls)
+
+-- since a start
 abbrev pub writtenOf : Tables → ℕ → List Call → List (List ℕ)
-writtenOf t first calls = map (λ (s : Seen). s .reply) (history ours t (startedOf t first .card) calls)
+writtenOf t first calls = writtenFrom t (startedOf t first .card) calls
 
 unfoldable pub transactionIn : List ℕ → ℕ
 transactionIn m = headerIn m .transaction
@@ -40,6 +45,7 @@ begunOf t first calls = numbersOf (writtenOf t first calls)
 abbrev pub IsRequest : Tables → ℕ → List ℕ → Type 0
 IsRequest t p m = (kindIn m ≡ 146) × (portIn t m ≡ At p)
 
+-- none of some messages is
 unfoldable pub NoRequest : Tables → ℕ → List (List ℕ) → Type 0
 NoRequest t p [] = Unit {0}
 NoRequest t p (m ∷ ms) = (IsRequest t p m → ⊥) × NoRequest t p ms
@@ -75,11 +81,23 @@ Among n (k ∷ ks) = (n ≡ k) ⊎ Among n ks
 abbrev pub presentOf : Tables → ℕ → List Call → ℕ
 presentOf t first calls = cardOf t first calls .head .counter .number
 
--- m is a Bandwidth Transfer (147), and handed in after these calls it is taken, for whichever port
-pub record IsTaken (t : Tables) (first : ℕ) (calls : List Call) (m : List ℕ) : Type 0 where
+-- a second start lies k places after a first one that began n messages, past them, and with the m messages that it
+-- began itself the circle has not gone all the way round
+pub record Moved (first second k n m : ℕ) : Type 0 where
+  pub places : second ≡ numberAfter first k
+  pub past : n ≤ k
+  pub round : k + m ≤ 16777215
+
+-- ---- the statements
+-- m is a Bandwidth Transfer (147), and the card takes it, for whichever port
+pub record IsTaken (t : Tables) (card : Card) (m : List ℕ) : Type 0 where
   pub kind : kindIn m ≡ 147
   pub room : ℕ
-  pub done : outcomeOf t (cardOf t first calls) (message m room) .number ≡ 0
+  pub done : outcomeOf t card (message m room) .number ≡ 0
+
+-- the card after it
+abbrev pub takenBy : {t : Tables} {card : Card} {m : List ℕ} → IsTaken t card m → Card
+takenBy {t} {card} {m} k = outcomeOf t card (message m (k .room)) .card
 
 -- each for every list of calls from every start that is taken
 pub record Grants : Type 0 where
@@ -88,7 +106,11 @@ pub record Grants : Type 0 where
       → (1 ≤ presentOf t first calls) × (presentOf t first calls ≤ 16777215)
   -- a 147 that is taken has the transaction number of the last 146 that this card wrote for its port since this start
   pub last : (t : Tables) (first : ℕ) → startedOf t first .number ≡ 0 → (calls : List Call) (m : List ℕ)
-      → IsTaken t first calls m → OwnGrant t m (writtenOf t first calls)
+      → IsTaken t (cardOf t first calls) m → OwnGrant t m (writtenOf t first calls)
+  -- after it no other is taken for this port, whatever is called, until the card has written another 146 for it
+  pub once : (t : Tables) (first : ℕ) → startedOf t first .number ≡ 0 → (calls : List Call) (p : ℕ) (m : List ℕ)
+      → portIn t m ≡ At p → (k : IsTaken t (cardOf t first calls) m) → (more : List Call) → NoRequest t p (writtenFrom t (takenBy k) more)
+      → (n : List ℕ) → portIn t n ≡ At p → IsTaken t (cardAfter ours t (takenBy k) more) n → ⊥
   -- the messages that a card began have the numbers from `first` on, one after the other, up to the present one
   pub stretch : (t : Tables) (first : ℕ) → startedOf t first .number ≡ 0 → (calls : List Call)
       → Stretch first (presentOf t first calls) (begunOf t first calls)
@@ -100,10 +122,8 @@ pub record Grants : Type 0 where
   -- be it with other tables, neither takes a grant for what the other began, also where its own request is open
   pub apart : (t u : Tables) (first second : ℕ) → startedOf t first .number ≡ 0 → startedOf u second .number ≡ 0
       → (xs ys : List Call) → ((n : ℕ) → Among n (begunOf t first xs) → Among n (begunOf u second ys) → ⊥)
-      → (m : List ℕ) → Among (transactionIn m) (begunOf t first xs) → IsTaken u second ys m → ⊥
-  -- they have none in common where the second starts k places after the first, which began at most k, and the two
-  -- together do not go all the way round
+      → (m : List ℕ) → Among (transactionIn m) (begunOf t first xs) → IsTaken u (cardOf u second ys) m → ⊥
+  -- they have none in common where the second start is moved on past what the first began
   pub restart : (t u : Tables) (first second : ℕ) → startedOf t first .number ≡ 0 → startedOf u second .number ≡ 0
-      → (xs ys : List Call) (k : ℕ) → second ≡ numberAfter first k → length (begunOf t first xs) ≤ k
-      → k + length (begunOf u second ys) ≤ 16777215
+      → (xs ys : List Call) (k : ℕ) → Moved first second k (length (begunOf t first xs)) (length (begunOf u second ys))
       → (n : ℕ) → Among n (begunOf t first xs) → Among n (begunOf u second ys) → ⊥
