@@ -1,14 +1,13 @@
 -- The transaction numbers that a card writes.
---     Numbered, call-numbers     a call begins no message and keeps the counter, or begins one with the counter's number
+--     Numbered, call-numbers     a call begins no message and keeps the counter, or begins one with its number
 --     calls-stretch              the numbers after any list of calls
 -- Assumes nothing.
 use Prim.Native.Nat.{ℕ, zero, suc, _+_, _≤_, _<_}
 use mathlib.Core.Path.{_≡_, refl, sym, ap, subst}
-use mathlib.Core.Bool.{Bool, true, false, cond, _||_}
+use mathlib.Core.Bool.{Bool, true, false, cond}
 use mathlib.Core.List.{List, [], _∷_, _++_}
 use native.Mathlib.Omega.{arith}
 use lib.ListN.{length, getD}
-use lib.Dec.{eqb}
 use borrow.Author.Tests.{ne-eqb}
 use Rattle.header.specs.declared.Header.{Header}
 use Rattle.header.specs.Header.{messageOf}
@@ -35,22 +34,25 @@ use Rattle.demand3.proofs.Commands.{commands-tell}
 use Rattle.demand3.proofs.Ways.{NotBegun, other-type, Way, stays, replies, rises, falls, sets, closes, reduces, asks, beside, commanded, grey}
 use Rattle.demand3.proofs.Each.{call-way}
 use Rattle.demand3.proofs.Counter.{commands-keep, InRange, call-range}
-use Rattle.grants.specs.Grants.{writtenFrom, transactionIn, isBegun, numbersOf, Stretch}
+use Rattle.grants.specs.Grants.{writtenFrom, transactionIn, begins, numbersOf, Stretch}
 
 -- ---- what is begun, and what is not
 pub silent : NotBegun []
 silent = other-type [] (λ e. omega arith) (λ e. omega arith) kind-none
 
-pub begun-146 : (w : List ℕ) → kindIn w ≡ 146 → isBegun w ≡ true
-unfolding isBegun
-begun-146 w e = subst (λ (k : ℕ). (eqb k 145 || eqb k 146) ≡ true) (sym e) refl
+abbrev pub isBegun : List ℕ → Bool
+isBegun w = begins (kindIn w)
 
-begun-145 : (w : List ℕ) → kindIn w ≡ 145 → isBegun w ≡ true
-unfolding isBegun
-begun-145 w e = subst (λ (k : ℕ). (eqb k 145 || eqb k 146) ≡ true) (sym e) refl
+pub begun-145 : (w : List ℕ) → kindIn w ≡ 145 → isBegun w ≡ true
+unfolding begins
+begun-145 w e = ap begins e
+
+pub begun-146 : (w : List ℕ) → kindIn w ≡ 146 → isBegun w ≡ true
+unfolding begins
+begun-146 w e = ap begins e
 
 not-begun : (w : List ℕ) → NotBegun w → isBegun w ≡ false
-unfolding isBegun
+unfolding begins
 not-begun w n = rw (ne-eqb (kindIn w) 145 (n .0), ne-eqb (kindIn w) 146 (n .1))
 
 -- the transaction number of a message that the card begins

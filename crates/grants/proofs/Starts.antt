@@ -20,8 +20,8 @@ use Rattle.demand3.specs.Corollaries.{cardOf}
 use Rattle.demand3.proofs.Fresh.{agree-fresh, started-port}
 use Rattle.demand3.proofs.Calls.{calls-agree}
 use Rattle.demand3.proofs.Counter.{first-counter, first-range, counter-range}
-use Rattle.grants.specs.Grants.{writtenFrom, writtenOf, NoRequest, Moved, takenBy, transactionIn, isBegun, numbersOf, begunOf, LastRequest, OwnGrant, Stretch, Among, presentOf, IsTaken, Grants}
-use Rattle.grants.proofs.Numbers.{begun-146, calls-stretch}
+use Rattle.grants.specs.Grants.{writtenFrom, writtenOf, NoRequest, Moved, takenBy, transactionIn, numbersOf, begunOf, LastRequest, OwnGrant, Stretch, Among, Disjoint, presentOf, IsTaken, Grants}
+use Rattle.grants.proofs.Numbers.{isBegun, begun-146, calls-stretch}
 use Rattle.grants.proofs.Once.{taken-once}
 use Rattle.grants.proofs.Last.{Since, open-since, last-in, calls-last, taken-open}
 
@@ -103,14 +103,14 @@ placed n (m ∷ ns) k =
 
 -- ---- two starts
 module _ (t u : Tables) (first second : ℕ) (one : startedOf t first .number ≡ 0) (two : startedOf u second .number ≡ 0) (xs ys : List Call) where
-  apart-of : ((n : ℕ) → Among n (begunOf t first xs) → Among n (begunOf u second ys) → ⊥)
+  apart-of : Disjoint (begunOf t first xs) (begunOf u second ys)
       → (m : List ℕ) → Among (transactionIn m) (begunOf t first xs) → IsTaken u (cardOf u second ys) m → ⊥
   apart-of none m old k =
       let a = last-of u second two ys m k in
       none (transactionIn m) old (last-among u (a .p) (transactionIn m) (writtenOf u second ys) (a .last))
 
   restart-of : (k : ℕ) → Moved first second k (length (begunOf t first xs)) (length (begunOf u second ys))
-      → (n : ℕ) → Among n (begunOf t first xs) → Among n (begunOf u second ys) → ⊥
+      → Disjoint (begunOf t first xs) (begunOf u second ys)
   restart-of k moved n a b =
       let range = first-counter t first one .1 in
       let i = placed n (begunOf t first xs) a in

@@ -28,14 +28,14 @@ writtenOf t first calls = writtenFrom t (startedOf t first .card) calls
 unfoldable pub transactionIn : List ℕ → ℕ
 transactionIn m = headerIn m .transaction
 
--- the messages that a card begins: Admission Control (145) and Bandwidth Reallocation Request (146)
-unfoldable pub isBegun : List ℕ → Bool
-isBegun m = eqb (kindIn m) 145 || eqb (kindIn m) 146
+-- the types of the messages that a card begins: Admission Control (145), Bandwidth Reallocation Request (146)
+unfoldable pub begins : ℕ → Bool
+begins kind = eqb kind 145 || eqb kind 146
 
 -- their transaction numbers, in order
 unfoldable pub numbersOf : List (List ℕ) → List ℕ
 numbersOf [] = []
-numbersOf (m ∷ ms) = cond (isBegun m) (transactionIn m ∷ numbersOf ms) (numbersOf ms)
+numbersOf (m ∷ ms) = cond (begins (kindIn m)) (transactionIn m ∷ numbersOf ms) (numbersOf ms)
 
 abbrev pub begunOf : Tables → ℕ → List Call → List ℕ
 begunOf t first calls = numbersOf (writtenOf t first calls)
@@ -77,12 +77,16 @@ unfoldable pub Among : ℕ → List ℕ → Type 0
 Among n [] = ⊥
 Among n (k ∷ ks) = (n ≡ k) ⊎ Among n ks
 
+-- no number is one of both
+abbrev pub Disjoint : List ℕ → List ℕ → Type 0
+Disjoint ns ms = (n : ℕ) → Among n ns → Among n ms → ⊥
+
 -- the number that the next message takes, after some calls from a start; a host reads it (`ancp_card_next_transaction`)
 abbrev pub presentOf : Tables → ℕ → List Call → ℕ
 presentOf t first calls = cardOf t first calls .head .counter .number
 
--- a second start lies k places after a first one that began n messages, past them, and with the m messages that it
--- began itself the circle has not gone all the way round
+-- a second start lies k places after a first one that began n messages, past these, and with the m messages that it
+-- began itself the circle has not gone all the way round; k may count the numbers of starts between the two
 pub record Moved (first second k n m : ℕ) : Type 0 where
   pub places : second ≡ numberAfter first k
   pub past : n ≤ k
@@ -109,8 +113,9 @@ pub record Grants : Type 0 where
       → IsTaken t (cardOf t first calls) m → OwnGrant t m (writtenOf t first calls)
   -- after it no other is taken for this port, whatever is called, until the card has written another 146 for it
   pub once : (t : Tables) (first : ℕ) → startedOf t first .number ≡ 0 → (calls : List Call) (p : ℕ) (m : List ℕ)
-      → portIn t m ≡ At p → (k : IsTaken t (cardOf t first calls) m) → (more : List Call) → NoRequest t p (writtenFrom t (takenBy k) more)
-      → (n : List ℕ) → portIn t n ≡ At p → IsTaken t (cardAfter ours t (takenBy k) more) n → ⊥
+      → portIn t m ≡ At p → (k : IsTaken t (cardOf t first calls) m) → (more : List Call)
+      → NoRequest t p (writtenFrom t (takenBy k) more) → (n : List ℕ) → portIn t n ≡ At p
+      → IsTaken t (cardAfter ours t (takenBy k) more) n → ⊥
   -- the messages that a card began have the numbers from `first` on, one after the other, up to the present one
   pub stretch : (t : Tables) (first : ℕ) → startedOf t first .number ≡ 0 → (calls : List Call)
       → Stretch first (presentOf t first calls) (begunOf t first calls)
@@ -121,9 +126,9 @@ pub record Grants : Type 0 where
   -- the operator's incident: an old grant that answers a new question. Of two starts that have no number in common,
   -- be it with other tables, neither takes a grant for what the other began, also where its own request is open
   pub apart : (t u : Tables) (first second : ℕ) → startedOf t first .number ≡ 0 → startedOf u second .number ≡ 0
-      → (xs ys : List Call) → ((n : ℕ) → Among n (begunOf t first xs) → Among n (begunOf u second ys) → ⊥)
+      → (xs ys : List Call) → Disjoint (begunOf t first xs) (begunOf u second ys)
       → (m : List ℕ) → Among (transactionIn m) (begunOf t first xs) → IsTaken u (cardOf u second ys) m → ⊥
   -- they have none in common where the second start is moved on past what the first began
   pub restart : (t u : Tables) (first second : ℕ) → startedOf t first .number ≡ 0 → startedOf u second .number ≡ 0
       → (xs ys : List Call) (k : ℕ) → Moved first second k (length (begunOf t first xs)) (length (begunOf u second ys))
-      → (n : ℕ) → Among n (begunOf t first xs) → Among n (begunOf u second ys) → ⊥
+      → Disjoint (begunOf t first xs) (begunOf u second ys)

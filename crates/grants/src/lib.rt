@@ -1,4 +1,4 @@
-// Whose grants a card takes: the statements are in specs/, their proofs in proofs/, and this crate's function owes them.
+// Whose grants a card takes: the statements are in specs/, their proofs in proofs/; this crate's function owes them.
 ghost use mathlib.Core.Path.{_≡_};
 ghost use Rattle.grants.specs.Grants.{Grants};
 
