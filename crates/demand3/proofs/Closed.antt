@@ -93,7 +93,7 @@ module _ (t : Tables) (taken : TablesTaken t) (card : Card) (l : Ledger) (a : Ag
         (sym (at-eq (sym (names-port t card l a m s) ∙ port)))
         (λ v. given-closes o v r h)
         (reallocation (t .ids) (t .channels) card (headerIn m) q (requestIn (firstOf 0x0016 (itemsOf (drop 16 m)))))
-    came-closes o (queried reply g n e) k r h = absurd (n (sym e ∙ k))
+    came-closes o (queried reply q e) k r h = absurd (omega arith)
     came-closes o (answered q e c s) k r h = absurd (omega arith)
 
     pub reduction-none : (room : ℕ) → kindIn (outcomeOf t card (message m room) .reply) ≡ 147 → resultIn (outcomeOf t card (message m room) .reply) ≡ 3

@@ -39,7 +39,8 @@ pub data Told (reply : List ℕ) (seq size n : ℕ) : Type 0 where
 
 pub record Tells (o : Outcome) (seq size n : ℕ) : Type 0 where
   pub number : o .number ≡ 0
-  pub other : Other (kindIn (o .reply)) 147
+  -- a Generic Response (91), or nothing
+  pub generic : kindIn (o .reply) < 144
   pub told : Told (o .reply) seq size n
 
 told-next : (reply : List ℕ) (seq size n : ℕ) → Told reply (seq + 1) size n → Told reply seq (suc size) (suc n)
@@ -47,7 +48,7 @@ told-next reply seq size n (all r e) = all r (ap suc e)
 told-next reply seq size n (failed r c s l) = failed r c (omega arith) (omega arith)
 
 tells-next : (o : Outcome) (seq size n : ℕ) → Tells o (seq + 1) size n → Tells o seq (suc size) (suc n)
-tells-next o seq size n t = record { number = t .number; other = t .other; told = told-next (o .reply) seq size n (t .told) }
+tells-next o seq size n t = record { number = t .number; generic = t .generic; told = told-next (o .reply) seq size n (t .told) }
 
 pub told-size : {reply : List ℕ} {seq size n : ℕ} → Told reply seq size n → n ≤ size
 told-size (all r e) = omega arith
@@ -60,15 +61,15 @@ module _ (h : Header) (card : Card) (seq : ℕ) where
     where
       go : (b : Bool) → Tells (cond b (writes card (successOf h)) (becomes card)) seq 0 0
       go true =
-          record { number = refl; other = λ e. omega (arith, kind-success h); told = all (λ e. omega (arith, result-success h)) refl }
-      go false = record { number = refl; other = λ e. omega (arith, kind-none); told = all (λ e. omega (arith, result-none)) refl }
+          record { number = refl; generic = omega (arith, kind-success h); told = all (λ e. omega (arith, result-success h)) refl }
+      go false = record { number = refl; generic = omega (arith, kind-none); told = all (λ e. omega (arith, result-none)) refl }
 
   failure-tells : (code : ℕ) (id c : List ℕ) (size : ℕ) → Tells (writes card (failureOf h code id seq c)) seq (suc size) 0
   unfolding failureOf
   failure-tells code id c size =
       record {
         number = refl;
-        other = λ e. omega (arith, kind-refusal h code (targetOf id ++ sequenceOf seq ++ tlvOf 0x0011 c));
+        generic = omega (arith, kind-refusal h code (targetOf id ++ sequenceOf seq ++ tlvOf 0x0011 c));
         told = failed (result-refusal h code (targetOf id ++ sequenceOf seq ++ tlvOf 0x0011 c)) (count-failure h code id seq c) (omega (arith, sequence-failure h code id seq c)) (omega arith);
       }
 

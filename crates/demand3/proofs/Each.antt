@@ -67,7 +67,7 @@ module _ (t : Tables) where
       }
   each-call (join q f room) =
       record {
-        way = λ c. join-way t c _ q f room;
+        way = λ c. join-way t c _ q f room refl;
         step = λ k c l a. join-step t c l a q f room;
         frame = λ k c l a p. line-frame t l _ _ p q (λ e. e) _ refl refl;
         known = λ c e p n. about c (join q f room) (join-known t c e q f room) n;

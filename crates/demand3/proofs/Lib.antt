@@ -23,6 +23,7 @@ pub mod Frames
 pub mod Taken
 pub mod Each
 pub mod Calls
+pub mod Counter
 pub mod Quiet
 pub mod Requests
 pub mod Closed

@@ -77,7 +77,7 @@ module _ (t : Tables) (card : Card) (l : Ledger) (a : Agree t card l) (m : List 
     controlled-agreed k r port =
         subst (Agree t (answer .card))
         (sym (ap (λ (n : ℕ). cond (eqb n 0) (messageEntry t l m (answer .reply)) l) (controlled-tells .number)
-        ∙ entry-ordered t l m (answer .reply) (controlled-tells .other) k r
+        ∙ entry-ordered t l m (answer .reply) (λ e. omega (arith, controlled-tells .generic)) k r
         ∙ ap (λ (f : Found). writeAt l f (λ x. actsAll t x (actedIn (answer .reply) commands))) port
         ∙ ap (λ (cs : List (List ℕ)). write l p (actsAll t (l p) cs)) controlled-acts))
         controlled-agrees
@@ -95,7 +95,8 @@ module _ (t : Tables) (card : Card) (l : Ledger) (a : Agree t card l) (m : List 
   came-agreed taken o (ordered p k s) = controlled-agreed p (port-below-64 s) (line-up s) k (result-ok (headerIn m) k (s .result)) (names-port s)
   came-agreed taken o (reduced p k s) =
       reallocated-agreed t card l a p (port-below-64 s) taken (port-one s) (headerIn m) m (requestIn (firstOf 0x0016 (itemsOf (drop 16 m))))
-  came-agreed taken o (queried reply g n e) = subst (Agree t card) (sym (entry-other t l m reply (λ k. n (sym e ∙ k)) n g)) a
+  came-agreed taken o (queried reply q e) =
+      subst (Agree t card) (sym (entry-other t l m reply (λ k. omega arith) (λ k. omega arith) (λ k. omega arith))) a
   came-agreed taken o (answered p k r s) = transferred-agreed t card l a p (port-below-64 s) m k r (names-port s)
 
   pub message-step : TablesTaken t → (room : ℕ) → Agree t (outcomeOf t card (message m room) .card) (entered t l (seen ours t card (message m room)))

@@ -18,7 +18,7 @@ use Rattle.replies.specs.Replies.{replyHeader, refusalOf, successOf, amountRepl
 use Rattle.rows.specs.declared.Found.the-variants.{At}
 use Rattle.circuits.specs.Circuits.{idAt, portOf}
 use Rattle.tables.proofs.Tables.{own-port}
-use Rattle.checks.specs.Named.{beside, needed, missing, singleOf, fromFault}
+use Rattle.checks.specs.Named.{beside, missing, singleOf, fromFault}
 use Rattle.checks.specs.Table.{idIn, copyOf, enclosedOf, refusedOf}
 use Rattle.control.specs.Control.{failureOf}
 use Rattle.queries.specs.Queries.{flowsReply, flowTlvs}
@@ -174,6 +174,16 @@ refused-unnumbered h s code e =
     ∙ enclosed-unnumbered s code []
     ∙ ap (countOf 0x0022) items-none
 
+-- ---- the port of a message that begins with a Target
+module _ (t : Tables) (h : Header) (p : ℕ) (rest : List ℕ) where
+  pub target-port : TablesTaken t → p < t .ports → portIn t (messageOf h (targetOf (idAt (t .ids) p) ++ rest)) ≡ At p
+  unfolding portIn idIn firstOf ofType tlvsIn
+  target-port k l =
+      let a = read-back .target (idAt (t .ids) p) in
+      ap (λ (is : List Item). portOf (t .ids) (t .ports) (circuitId (firstOf 0x1000 is))) (tlvs-back h (targetOf (idAt (t .ids) p) ++ rest) ∙ a .stands rest)
+      ∙ ap (portOf (t .ids) (t .ports)) (a .fields .1)
+      ∙ own-port (t .ids) (t .ports) (t .channels) (t .channelCount) (t .entries) (t .entryCount) k p l
+
 -- ---- the port and the amount of a Bandwidth Transfer
 module _ (t : Tables) (h : Header) (kind result code p amount : ℕ) where
   abbrev reply : List ℕ
@@ -196,8 +206,5 @@ module _ (t : Tables) (h : Header) (kind result code p amount : ℕ) where
   amount-back = ap (λ (is : List Item). allocationIn (firstOf 0x0015 is)) tlvs-amount ∙ read-back .allocation amount .fields .1
 
   pub port-back : TablesTaken t → p < t .ports → portIn t reply ≡ At p
-  unfolding portIn idIn firstOf ofType tlvsIn
-  port-back k l =
-      ap (λ (is : List Item). portOf (t .ids) (t .ports) (circuitId (firstOf 0x1000 is))) tlvs-amount
-      ∙ ap (portOf (t .ids) (t .ports)) (read-back .target (idAt (t .ids) p) .fields .1)
-      ∙ own-port (t .ids) (t .ports) (t .channels) (t .channelCount) (t .entries) (t .entryCount) k p l
+  unfolding amountReply
+  port-back = target-port t (replyHeader h kind result code) p (allocationOf amount)

@@ -101,14 +101,14 @@ module _ (t : Tables) (card : Card) (l : Ledger) (a : Agree t card l) (taken : T
   came-147 o (notice k r) e = absurd (omega (arith, kind-none))
   came-147 o (refused code n) e = absurd (omega (arith, kind-refusal (headerIn m) code (enclosedOf (headerIn m .kind) (drop 16 m) code)))
   came-147 o (ordered p k s) e =
-      absurd (commands-tell (t .channels) (headerIn m) (idAt (t .ids) p) p card 1 (commandsIn (drop 16 m)) .other e)
+      absurd (omega (arith, commands-tell (t .channels) (headerIn m) (idAt (t .ids) p) p card 1 (commandsIn (drop 16 m)) .generic))
   came-147 o (reduced p k s) e =
       record {
         kind = k;
         port = transfer-port p (port-one t card l a m s) _ (reallocation (t .ids) (t .channels) card (headerIn m) p (requestIn (firstOf 0x0016 (itemsOf (drop 16 m)))))
             ∙ sym (names-port t card l a m s);
       }
-  came-147 o (queried reply g n k) e = absurd (n (sym k ∙ e))
+  came-147 o (queried reply q k) e = absurd (omega arith)
   came-147 o (answered p k r s) e =
       let none = transferred-silent card (headerIn m) p (allocationIn (firstOf 0x0015 (itemsOf (drop 16 m)))) in
       absurd (omega (arith, sym (ap kindIn none) ∙ e, kind-none))
@@ -129,7 +129,7 @@ module _ (t : Tables) (card : Card) (ports : card .head .«port_count» ≡ t .p
   came-none m kind port o (refused code n) e = n kind
   came-none m kind port o (ordered q k s) e = omega arith
   came-none m kind port o (reduced q k s) e = omega arith
-  came-none m kind port o (queried reply g n k) e = n kind
+  came-none m kind port o (queried reply q k) e = omega arith
   came-none m kind port o (answered q k r s) e =
       let found : portOf (t .ids) (card .head .«port_count») (idIn (drop 16 m)) ≡ At p = ap (λ (n : ℕ). portOf (t .ids) n (idIn (drop 16 m))) ports ∙ port in
       let same : q ≡ p = at-eq (sym (s .found) ∙ found) in

@@ -4,12 +4,12 @@
 -- Assumes nothing.
 use Prim.Native.Nat.{ℕ, _<_}
 use mathlib.Core.Path.{_≡_, refl}
-use mathlib.Core.Bool.{Bool, true, false, cond, _&&_, _||_}
+use mathlib.Core.Bool.{Bool, true, false, cond, false≢true, _&&_, _||_}
 use mathlib.Core.List.{List}
 use native.Mathlib.Omega.{arith}
 use lib.ListN.{drop}
 use lib.Dec.{eqb, ltb}
-use borrow.Author.Tests.{eqb-true, eqb-false}
+use borrow.Author.Tests.{eqb-true, eqb-false, ne-eqb}
 use Rattle.octets.proofs.Tests.{both}
 use Rattle.header.specs.declared.Header.{Header}
 use Rattle.header.specs.declared.Head.the-variants.{Unusable, Usable}
@@ -23,7 +23,7 @@ use Rattle.card.specs.Cards.{Card, portAt}
 use Rattle.card.specs.Outcome.{Outcome, keeps, writes}
 use Rattle.checks.specs.declared.Verdict.{Verdict}
 use Rattle.checks.specs.declared.Verdict.the-variants.{Refused, Passed}
-use Rattle.checks.specs.Table.{tableOf, refusedOf}
+use Rattle.checks.specs.Table.{handled, tableOf, refusedOf}
 use Rattle.checks.proofs.Rows.{TablePassed, passed-tells}
 use Rattle.control.specs.Control.{controlled}
 use Rattle.transfers.specs.Transfers.{reallocated, transferred}
@@ -40,6 +40,16 @@ port-below ids n id e = let f = port-found ids n id e in (f .below, f .small)
 -- ---- the answers
 abbrev pub Other : ℕ → ℕ → Type 0
 Other a b = a ≡ b → ⊥
+
+-- of the types that are handled the queries are left, 148 and 149
+query-kind : (k : ℕ) → handled k ≡ true → Other k 144 → Other k 146 → Other k 147 → 147 < k
+unfolding handled
+query-kind k h a b c = go (eqb k 148) (eqb k 149) refl refl (rw (ne-eqb k 144 a, ne-eqb k 146 b, ne-eqb k 147 c) at h)
+  where
+    go : (d e : Bool) → eqb k 148 ≡ d → eqb k 149 ≡ e → (d || e) ≡ true → 147 < k
+    go true e p q r = omega (arith, eqb-true k 148 p)
+    go false true p q r = omega (arith, eqb-true k 149 q)
+    go false false p q r = absurd (false≢true r)
 
 module _ (ids channels : List ℕ) (card : Card) (m : List ℕ) where
   abbrev pub head : Header
@@ -59,8 +69,8 @@ module _ (ids channels : List ℕ) (card : Card) (m : List ℕ) where
     ordered : (p : ℕ) → head .kind ≡ 144 → TablePassed ids card head rest p → Came (controlled ids channels card head p rest)
     reduced : (p : ℕ) → head .kind ≡ 146 → TablePassed ids card head rest p
         → Came (reallocated ids channels card head p (requestIn (firstOf 0x0016 (itemsOf rest))))
-    -- a query, answered by its own type
-    queried : (reply : List ℕ) → Other (head .kind) 144 → Other (head .kind) 147 → kindIn reply ≡ head .kind → Came (writes card reply)
+    -- a query (148, 149), answered by its own type
+    queried : (reply : List ℕ) → 147 < head .kind → kindIn reply ≡ head .kind → Came (writes card reply)
     answered : (p : ℕ) → head .kind ≡ 147 → isAnswer (head .result) ≡ true → TablePassed ids card head rest p
         → Came (transferred card head p (allocationIn (firstOf 0x0015 (itemsOf rest))))
 
@@ -72,11 +82,11 @@ module _ (ids channels : List ℕ) (card : Card) (m : List ℕ) where
   unfolding byType delegationQuery flowQuery
   came-type p n a =
       pick (eqb (head .kind) 144) _ _ (λ e. ordered p (eqb-true (head .kind) 144 e) a)
-      (λ e. let other : Other (head .kind) 144 = eqb-false (head .kind) 144 e in
-      pick (eqb (head .kind) 146) _ _ (λ f. reduced p (eqb-true (head .kind) 146 f) a)
-      (λ f. pick (eqb (head .kind) 148) _ _
-      (λ g. queried _ other n (kind-amount head (head .kind) 3 0 (idAt ids p) (portAt card p .delegation)))
-      (λ g. queried _ other n (kind-flows head (idAt ids p) channels (rowsInOrder channels (card .pool) p)))))
+      (λ e. pick (eqb (head .kind) 146) _ _ (λ f. reduced p (eqb-true (head .kind) 146 f) a)
+      (λ f. let query = query-kind (head .kind) (a .known) (eqb-false (head .kind) 144 e) (eqb-false (head .kind) 146 f) n in
+      pick (eqb (head .kind) 148) _ _
+      (λ g. queried _ query (kind-amount head (head .kind) 3 0 (idAt ids p) (portAt card p .delegation)))
+      (λ g. queried _ query (kind-flows head (idAt ids p) channels (rowsInOrder channels (card .pool) p)))))
 
   came-requested : Other (head .kind) 147 → (v : Verdict) → tableOf ids card head rest ≡ v → Came (requested ids channels card head rest v)
   unfolding requested

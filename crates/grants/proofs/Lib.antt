@@ -1,0 +1,4 @@
+pub mod Numbers
+pub mod Last
+pub mod Once
+pub mod Starts
