@@ -10,7 +10,7 @@ use mathlib.Core.List.{List, [], _∷_}
 use mathlib.Core.Logic.{_⊎_, inl, inr, ⊎-elim}
 use native.Mathlib.Omega.{arith}
 use lib.Dec.{eqb, leb}
-use borrow.Author.Tests.{leb-true, leb-false}
+use borrow.Author.Tests.{leb-true}
 use Rattle.octets.specs.Tests.{every}
 use Rattle.octets.proofs.Tests.{each}
 use Rattle.header.specs.declared.Header.{Header}
@@ -20,7 +20,8 @@ use Rattle.channels.specs.Channels.{channelOf}
 use Rattle.replies.specs.Replies.{successOf}
 use Rattle.circuits.specs.Circuits.{idAt}
 use Rattle.ports.specs.declared.Counter.{Counter}
-use Rattle.ports.specs.Transactions.{nextNumber, takenFrom}
+use Rattle.numbers.proofs.Circle.{next-range}
+use Rattle.ports.specs.Transactions.{takenFrom}
 use Rattle.flows.specs.declared.Flow.{Flow}
 use Rattle.pool.specs.declared.Pool.{Pool}
 use Rattle.pool.specs.Pool.{isActive, hasFlow}
@@ -108,20 +109,13 @@ module _ (t : Tables) (card : Card) (x : Call) where
 abbrev pub InRange : Card → Type 0
 InRange card = (1 ≤ card .head .counter .number) × (card .head .counter .number ≤ 16777215)
 
-next-range : (n : ℕ) → 1 ≤ n → (1 ≤ nextNumber n) × (nextNumber n ≤ 16777215)
-next-range n l = go (leb 16777215 n) refl
-  where
-    go : (b : Bool) → leb 16777215 n ≡ b → (1 ≤ cond b 1 (n + 1)) × (cond b 1 (n + 1) ≤ 16777215)
-    go true e = (omega arith, omega arith)
-    go false e = (omega arith, omega (arith, leb-false 16777215 n e))
-
 module _ (t : Tables) where
   pub call-range : (card : Card) (x : Call) → InRange card → InRange (outcomeOf t card x .card)
   call-range card x r =
       ⊎-elim
       (λ (e : outcomeOf t card x .card .head .counter ≡ card .head .counter). subst (λ (c : Counter). (1 ≤ c .number) × (c .number ≤ 16777215)) (sym e) r)
       (λ (e : outcomeOf t card x .card .head .counter ≡ takenFrom (card .head .counter) .next).
-      subst (λ (c : Counter). (1 ≤ c .number) × (c .number ≤ 16777215)) (sym e) (next-range (card .head .counter .number) (r .0)))
+      subst (λ (c : Counter). (1 ≤ c .number) × (c .number ≤ 16777215)) (sym e) (next-range (card .head .counter .number) (r .0) (r .1)))
       (call-counter t card x)
 
   pub calls-range : (xs : List Call) (card : Card) → InRange card → InRange (cardAfter ours t card xs)
