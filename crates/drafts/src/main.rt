@@ -1,10 +1,12 @@
 // Plays a script of calls from standard input, such as the example messages of the sources (the file stdin), and writes what each call answers.
 // A line is a name, a verb of one letter and its octets in hexadecimal, with one space between them:
 //   n  start again: four ports p001, port10, port20, port11, all up, p001 with delegation 2000; 01 for MRepCtl-CAC on
-//   m  a message                     u, x  port up, port down: port
+//   m  a message                     s  a message with a reply buffer of 4,607 octets
+//   u, x  port up, port down: port
 //   j, l  join, leave: port, group, source (IPv4; without a source no octets)
 //   d  set delegation: port, amount  a  ask: port, required, preferred
 // Written is the name, the number and the reply's octets; for n nothing. A line that begins with '#' is passed over.
+// Of a line's octets the first 4,097 count. A script of 65,536 octets or more is not read whole, which is then said.
 mod start;
 mod text;
 
@@ -25,6 +27,13 @@ fn main() {
         c = line(c, t, &script[at..e]);
         at = e + 1;
     }
+    said_if_long(n);
+}
+
+fn said_if_long(n: usize) {
+    if 65536 <= n {
+        io::write_all(1, b"the script is too long\n");
+    }
 }
 
 fn line(core: Core, t: Tables, s: &[u8]) -> Core {
@@ -41,9 +50,24 @@ fn line(core: Core, t: Tables, s: &[u8]) -> Core {
     if verb == b'n' {
         return start::ready(t, octets[0] == 1);
     }
+    if verb == b's' {
+        return cramped(core, t, text::first(s, v), &octets[..n]);
+    }
+    answered(core, t, verb, text::first(s, v), &octets[..n])
+}
+
+fn answered(core: Core, t: Tables, verb: u8, name: &[u8], o: &[u8]) -> Core {
     let mut reply = [0u8; 4608];
-    let done = call(core, t, verb, &octets[..n], &mut reply);
-    tell(text::first(s, v), done, &reply);
+    let done = call(core, t, verb, o, &mut reply);
+    tell(name, done, &reply);
+    done.core
+}
+
+// A message with a reply buffer that is one octet too small.
+fn cramped(core: Core, t: Tables, name: &[u8], o: &[u8]) -> Core {
+    let mut reply = [0u8; 4607];
+    let done = call(core, t, b'm', o, &mut reply);
+    tell(name, done, &reply);
     done.core
 }
 
