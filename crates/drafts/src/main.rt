@@ -1,8 +1,7 @@
 // Plays a script of calls from standard input, such as the example messages of the sources (the file stdin), and writes what each call answers.
 // A line is a name, a verb of one letter and its octets in hexadecimal, with one space between them:
 //   n  start again: four ports p001, port10, port20, port11, all up, p001 with delegation 2000; 01 for MRepCtl-CAC on
-//   m  a message                     s  a message with a reply buffer of 4,607 octets
-//   u, x  port up, port down: port
+//   m  a message                     u, x  port up, port down: port
 //   j, l  join, leave: port, group, source (IPv4; without a source no octets)
 //   d  set delegation: port, amount  a  ask: port, required, preferred
 // Written is the name, the number and the reply's octets; for n nothing. A line that begins with '#' is passed over.
@@ -50,24 +49,9 @@ fn line(core: Core, t: Tables, s: &[u8]) -> Core {
     if verb == b'n' {
         return start::ready(t, octets[0] == 1);
     }
-    if verb == b's' {
-        return cramped(core, t, text::first(s, v), &octets[..n]);
-    }
-    answered(core, t, verb, text::first(s, v), &octets[..n])
-}
-
-fn answered(core: Core, t: Tables, verb: u8, name: &[u8], o: &[u8]) -> Core {
     let mut reply = [0u8; 4608];
-    let done = call(core, t, verb, o, &mut reply);
-    tell(name, done, &reply);
-    done.core
-}
-
-// A message with a reply buffer that is one octet too small.
-fn cramped(core: Core, t: Tables, name: &[u8], o: &[u8]) -> Core {
-    let mut reply = [0u8; 4607];
-    let done = call(core, t, b'm', o, &mut reply);
-    tell(name, done, &reply);
+    let done = call(core, t, verb, &octets[..n], &mut reply);
+    tell(text::first(s, v), done, &reply);
     done.core
 }
 
