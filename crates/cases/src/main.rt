@@ -231,7 +231,10 @@ fn transactions(t: Tables) {
     c = ask(b"ask again", c, t, 0, 101);
     c = ask(b"ask on another port", c, t, 1, 101);
     say(b"next", card::next_transaction(c) as u64);
-    c = cramped(c, t);
+    let asked = calls::on_port(calls::ASK, 1, 101, 200);
+    c = cramped(b"ask with a small buffer", c, t, asked);
+    let told = calls::on_port(calls::MESSAGE, 0, 0, 0);
+    c = cramped(b"a message with a small buffer", c, t, told);
     let none = started(t, 0, 64);
     say(b"start with transaction 0", none.number as u64);
     let many = started(t, 1, 65);
@@ -239,17 +242,17 @@ fn transactions(t: Tables) {
     say(b"next", card::next_transaction(c) as u64);
 }
 
-// Port 1 asks with a reply buffer that is too small.
-fn cramped(core: Core, t: Tables) -> Core {
+// A call with a reply buffer that is one octet too small; its octets are a Delegated Bandwidth Query (148) for port 1.
+fn cramped(what: &[u8], core: Core, t: Tables, call: HostCall) -> Core {
     let ids = t.ids;
     let channels = t.channels;
     let entries = t.entries;
-    let octets = [0u8; 1];
-    let mut small = [0u8; 64];
-    let call = calls::on_port(calls::ASK, 1, 101, 200);
-    let d = calls::call(core, &ids, &channels, &entries, call, &octets, &mut small);
+    let octets =
+        b"\x88\x0C\x00\x18\x32\x94\x20\x00\x00\x00\x00\x07\x80\x01\x00\x18\x10\x00\x00\x08\x00\x01\x00\x01\x01\x00\x00\x00";
+    let mut small = [0u8; 4607];
+    let d = calls::call(core, &ids, &channels, &entries, call, octets, &mut small);
     let n = d.number;
-    say(b"a small buffer", n as u64);
+    say(what, n as u64);
     d.core
 }
 

@@ -5,6 +5,7 @@
 //   j, l  join, leave: port, group, source (IPv4; without a source no octets)
 //   d  set delegation: port, amount  a  ask: port, required, preferred
 // Written is the name, the number and the reply's octets; for n nothing. A line that begins with '#' is passed over.
+// Of a line's octets the first 4,097 count. A script of 65,536 octets or more is not read whole, which is then said.
 mod start;
 mod text;
 
@@ -24,6 +25,13 @@ fn main() {
         let e = text::until(&script[..n], at, b'\n');
         c = line(c, t, &script[at..e]);
         at = e + 1;
+    }
+    said_if_long(n);
+}
+
+fn said_if_long(n: usize) {
+    if 65536 <= n {
+        io::write_all(1, b"the script is too long\n");
     }
 }
 
