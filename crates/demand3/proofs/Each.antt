@@ -41,7 +41,7 @@ module _ (t : Tables) where
   each-call (setDelegation q amount) =
       record { way = λ c. delegation-way t c _ q amount; step = λ k c l a. delegation-step t c l a q amount; frame = λ k c l a p. set-frame t l _ _ p q (ap At) _ refl amount refl }
   each-call (join q f room) =
-      record { way = λ c. join-way t c _ q f room; step = λ k c l a. join-step t c l a q f room; frame = λ k c l a p. line-frame t l _ _ p q (λ e. e) _ refl refl }
+      record { way = λ c. join-way t c _ q f room refl; step = λ k c l a. join-step t c l a q f room; frame = λ k c l a p. line-frame t l _ _ p q (λ e. e) _ refl refl }
   each-call (leave q f) =
       record { way = λ c. leave-way t c _ q f; step = λ k c l a. leave-step t c l a q f; frame = λ k c l a p. line-frame t l _ _ p q (ap At) _ refl refl }
   each-call (ask q m n room) =

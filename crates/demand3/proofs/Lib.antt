@@ -22,6 +22,7 @@ pub mod Ways
 pub mod Frames
 pub mod Each
 pub mod Calls
+pub mod Counter
 pub mod Quiet
 pub mod Requests
 pub mod Closed

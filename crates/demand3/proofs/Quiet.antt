@@ -27,9 +27,9 @@ module _ (t : Tables) (card : Card) (x : Call) where
   way-quiet o (closes p) a b = absurd (a refl)
   way-quiet o (reduces h p amount) a b = absurd (a refl)
   way-quiet o (asks p required preferred room e u) a b = absurd (a refl)
-  way-quiet o (beside card′ e) a b = absurd (a refl)
+  way-quiet o (beside card′ e n) a b = absurd (a refl)
   way-quiet o (commanded h p s) a b = absurd (a (commands-tell (t .channels) h (idAt (t .ids) p) p card 1 (commandsIn s) .number))
-  way-quiet o (grey p f) a b = absurd (b refl)
+  way-quiet o (grey p f room e) a b = absurd (b refl)
 
   pub call-quiet : Quiet (outcomeOf t card x)
   call-quiet = way-quiet (outcomeOf t card x) (call-way t card x)

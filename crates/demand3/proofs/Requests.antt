@@ -3,33 +3,22 @@
 --     stays-closed             a request that is closed stays closed until the host asks for the port
 --     down-closed              a port that is down has no open request
 -- Assumes nothing.
-use Prim.Native.Nat.{ℕ, _+_, _<_}
+use Prim.Native.Nat.{ℕ, _<_}
 use mathlib.Core.Path.{_≡_, refl, sym, subst, _∙_}
 use mathlib.Core.Bool.{Bool, true, false, cond, false≢true}
 use mathlib.Core.List.{List, [], _∷_}
 use native.Mathlib.Omega.{arith}
 use lib.ListN.{getD}
 use lib.Seq.{getD-set-other}
-use lib.Dec.{eqb}
-use Rattle.header.specs.declared.Header.{Header}
-use Rattle.rows.specs.declared.Found.{Found}
-use Rattle.rows.specs.declared.Found.the-variants.{At, Nothing}
-use Rattle.channels.specs.Channels.{channelOf}
-use Rattle.replies.specs.Replies.{successOf}
 use Rattle.circuits.specs.Circuits.{idAt}
 use Rattle.ports.specs.declared.Port.{Port}
 use Rattle.ports.specs.Ports.{freshPort, broughtUp, takenDown, closed, delegated, asked}
 use Rattle.ports.specs.Transactions.{takenFrom}
-use Rattle.flows.specs.declared.Flow.{Flow}
-use Rattle.pool.specs.Pool.{isActive, hasFlow}
 use Rattle.card.specs.Cards.{Card, portAt, withPort}
-use Rattle.card.specs.Outcome.{Outcome, becomes, writes}
-use Rattle.joins.specs.Joins.{admitNumber, greyOf}
+use Rattle.card.specs.Outcome.{Outcome}
+use Rattle.joins.specs.Joins.{greyOf}
 use Rattle.joins.specs.Asks.{askedOf}
-use Rattle.commands.specs.Orders.{Order, orderOf}
-use Rattle.commands.specs.Orders.Order.{ill, add, delete, deleteAll}
-use Rattle.commands.specs.Commands.{Ran, addNew, addRow, deleteFlow, obeyed, ranOf}
-use Rattle.control.specs.Control.{failureOf, allGood, commandsFrom, commandsIn, controlled}
+use Rattle.control.specs.Control.{commandsIn, controlled}
 use Rattle.transfers.specs.Transfers.{transferGives}
 use Rattle.demand3.specs.Calls.{Tables, Call, ours, outcomeOf, cardAfter, seen, byCall}
 use Rattle.demand3.specs.Calls.Call.{ask}
@@ -39,47 +28,7 @@ use Rattle.demand3.proofs.Agree.{Agree, TablesTaken, same-or-not}
 use Rattle.demand3.proofs.Steps.{port-set}
 use Rattle.demand3.proofs.Ways.{Way, stays, replies, rises, falls, sets, closes, reduces, asks, beside, commanded, grey}
 use Rattle.demand3.proofs.Each.{call-way, call-step}
-
--- ---- commands keep every port's record
-module _ (channels : List ℕ) (p : ℕ) where
-  ran-by : (card : Card) (b : Bool) (v w : Ran) → v .card .ports ≡ card .ports → w .card .ports ≡ card .ports → cond b v w .card .ports ≡ card .ports
-  ran-by card true v w f g = f
-  ran-by card false v w f g = g
-
-  module _ (card : Card) where
-    add-ports : (v : ℕ) (r : Found) → addRow channels card p v r .card .ports ≡ card .ports
-    unfolding addRow addNew
-    add-ports v Nothing = refl
-    add-ports v (At k) =
-        ran-by card (isActive (card .pool) p k) _ _ refl (ran-by card (eqb (admitNumber channels card (card .head .«add_cac») p k) 0) _ _ refl refl)
-
-    delete-ports : (f : Flow) → deleteFlow channels card p f .card .ports ≡ card .ports
-    unfolding deleteFlow
-    delete-ports f = ran-by card (hasFlow channels (card .pool) p f) _ _ refl refl
-
-    obeyed-ports : (o : Order) → obeyed channels card p o .card .ports ≡ card .ports
-    unfolding obeyed
-    obeyed-ports (ill code) = refl
-    obeyed-ports (add f v) = add-ports v (channelOf channels (card .head .«channel_count») f)
-    obeyed-ports (delete f) = delete-ports f
-    obeyed-ports deleteAll = refl
-
-  commands-ports : (h : Header) (id : List ℕ) (card : Card) (seq : ℕ) (cs : List (List ℕ)) → commandsFrom channels h id p card seq cs .card .ports ≡ card .ports
-  unfolding commandsFrom allGood
-  commands-ports h id card seq [] = go (eqb (h .result) 2)
-    where
-      go : (b : Bool) → cond b (writes card (successOf h)) (becomes card) .card .ports ≡ card .ports
-      go true = refl
-      go false = refl
-  commands-ports h id card seq (c ∷ cs) =
-      go (eqb (ranOf channels card p c .code) 0) (commands-ports h id (ranOf channels card p c .card) (seq + 1) cs ∙ obeyed-ports card (orderOf c))
-    where
-      next : Outcome
-      next = commandsFrom channels h id p (ranOf channels card p c .card) (seq + 1) cs
-
-      go : (b : Bool) → next .card .ports ≡ card .ports → cond b next (writes card (failureOf h (ranOf channels card p c .code) id seq c)) .card .ports ≡ card .ports
-      go true e = e
-      go false e = refl
+use Rattle.demand3.proofs.Counter.{commands-keep}
 
 -- ---- a fact of a record that no change of a record ends, asking apart
 pub record Survives (R : Port → Type 0) : Type 0 where
@@ -117,10 +66,10 @@ module _ (t : Tables) (taken : TablesTaken t) (p : ℕ) (below : p < 64) (R : Po
     way-keeps x n o (reduces h q amount) = written q _ (λ e. s .give (portAt card q) amount)
     way-keeps x n o (asks q required preferred room is up) =
         written q _ (λ e z. n q required preferred room is e (portAt card q) up (takenFrom (card .head .counter) .number))
-    way-keeps x n o (beside card′ e) = subst (λ (ps : List Port). R (getD ps p freshPort)) (sym e) r
+    way-keeps x n o (beside card′ e m) = subst (λ (ps : List Port). R (getD ps p freshPort)) (sym e) r
     way-keeps x n o (commanded h q w) =
-        subst (λ (ps : List Port). R (getD ps p freshPort)) (sym (commands-ports (t .channels) q h (idAt (t .ids) q) card 1 (commandsIn w))) r
-    way-keeps x n o (grey q f) = r
+        subst (λ (ps : List Port). R (getD ps p freshPort)) (sym (commands-keep (λ c. c .ports) (λ c pool. refl) (t .channels) q h (idAt (t .ids) q) card 1 (commandsIn w))) r
+    way-keeps x n o (grey q f room e) = r
 
     call-keeps : (x : Call) → Opens x → R (portAt (outcomeOf t card x .card) p)
     call-keeps x n = way-keeps x n (outcomeOf t card x) (call-way t card x)
