@@ -1,12 +1,10 @@
 -- What every call writes, on every card that calls reach. Assumes nothing.
-use Prim.Native.Nat.{ℕ, _<_}
+use Prim.Native.Nat.{_<_}
 use native.Mathlib.Omega.{arith}
-use mathlib.Core.Path.{_≡_}
-use mathlib.Core.List.{List}
 use Rattle.card.specs.Cards.{Card}
-use Rattle.demand3.specs.Calls.{Tables, Call, ours, outcomeOf, startedOf, cardAfter, history, byCall}
+use Rattle.demand3.specs.Calls.{Tables, Call, ours, outcomeOf, startedOf, cardAfter, byCall}
 use Rattle.demand3.specs.Calls.Call.{portUp, portDown, setDelegation, join, leave, ask, message}
-use Rattle.demand3.specs.Ledger.{Ledger, ledgerFrom, opened}
+use Rattle.demand3.specs.Ledger.{Ledger, opened}
 use Rattle.demand3.proofs.Agree.{Agree, TablesTaken}
 use Rattle.demand3.proofs.Fresh.{agree-fresh}
 use Rattle.demand3.proofs.Calls.{calls-agree}

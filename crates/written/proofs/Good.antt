@@ -1,4 +1,5 @@
--- On a card that agrees with a ledger, the flows that a Multicast Flow Query lists are good ones: each is a listed channel's. Assumes nothing.
+-- On a card that agrees with a ledger, the flows that a Multicast Flow Query lists are good ones: each is a listed
+-- channel's. Assumes nothing.
 use Prim.Native.Nat.{ℕ, _<_}
 use mathlib.Core.Path.{_≡_, refl, sym, ap, _∙_}
 use mathlib.Core.Bool.{Bool, true, false, cond}

@@ -22,7 +22,7 @@ use Rattle.card.specs.Outcome.{Outcome, writes}
 use Rattle.checks.specs.declared.Verdict.{Verdict}
 use Rattle.checks.specs.declared.Verdict.the-variants.{Refused, Passed}
 use Rattle.checks.specs.Named.{singleOf, fromFault}
-use Rattle.checks.specs.Table.{handled, faults, tableOf, refusedOf}
+use Rattle.checks.specs.Table.{handled, faults, refusedOf}
 use Rattle.checks.proofs.Rows.{TablePassed, TableRefused, unhandled, unfit, broken, lacking, faulty, unknown, down, passed-tells, refused-tells}
 use Rattle.commands.specs.Commands.{ranOf}
 use Rattle.control.specs.Control.{allGood, commandsFrom, commandsIn, controlled, failureOf}
@@ -37,7 +37,7 @@ use Rattle.replyback.proofs.Passed.{code-fits}
 use Rattle.replyback.proofs.Answers.{kinds-back}
 use Rattle.demand3.specs.Calls.{Tables}
 use Rattle.demand3.specs.Calls.Call.{message}
-use Rattle.written.specs.Written.{Written, Succeed, requestOf, verdictOn}
+use Rattle.written.specs.Written.{Succeed, requestOf, verdictOn}
 use Rattle.written.specs.Written.Succeed.{none, more}
 use Rattle.written.specs.Written.Written.{nothing, type-unhandled, result-wrong, tlvs-broken, tlvs-missing, tlv-at-fault, port-unknown, port-down}
 use Rattle.written.specs.Written.Written.{succeeded, failed, more-preferred, under-committed, reduced, delegation, flows}

@@ -1,5 +1,5 @@
--- The statement: on every card that calls reach from a start that is taken, what a call writes reads back. Assumes nothing: this is a
--- definition; it is proved in proofs/, and owed by `written::reply_room`.
+-- The statement: on every card that calls reach from a start that is taken, what a call writes reads back. Assumes
+-- nothing: this is a definition; it is proved in proofs/, and owed by `written::reply_room`.
 use Prim.Native.Nat.{ℕ}
 use mathlib.Core.Path.{_≡_}
 use mathlib.Core.List.{List}

@@ -1,6 +1,6 @@
--- What a call on a card writes: nothing, or one kind of message with its arguments, which reads back as exactly these: header, and
--- the whole list of TLVs with their contents (01, "What comes back from a call" and "A message, check by check").
--- Assumes nothing: these are definitions; the statement is in Every.
+-- What a call on a card writes: nothing, or one kind of message with its arguments, which reads back as exactly
+-- these: header, and the whole list of TLVs with their contents (01, "What comes back from a call" and "A message,
+-- check by check"). Assumes nothing: these are definitions; the statement is in Every.
 use Prim.Native.Nat.{ℕ, _+_, _≤_, _<_}
 use mathlib.Core.Path.{_≡_}
 use mathlib.Core.List.{List, [], _∷_, _++_}
@@ -45,8 +45,8 @@ module _ (t : Tables) (card : Card) where
   abbrev pub verdictOn : List ℕ → Verdict
   verdictOn m = tableOf (t .ids) card (headerIn m) (tlvsOf m)
 
-  -- the octets w, written with a call. A message that is begun has the card's present transaction number, and the circuit id of its
-  -- port; what a reply says of the message m is read off m
+  -- the octets w, written with a call. A message that is begun has the card's present transaction number, and the
+  -- circuit id of its port; what a reply says of the message m is read off m
   pub data Written : Call → List ℕ → Type 0 where
     nothing : {x : Call} → Written x []
     -- ---- begun by the host: Admission Control (145), Bandwidth Reallocation Request (146)
