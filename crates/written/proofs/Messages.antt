@@ -37,8 +37,8 @@ use Rattle.replyback.proofs.Passed.{code-fits}
 use Rattle.replyback.proofs.Answers.{kinds-back}
 use Rattle.demand3.specs.Calls.{Tables}
 use Rattle.demand3.specs.Calls.Call.{message}
-use Rattle.written.specs.Written.{Succeed, requestOf, verdictOn}
-use Rattle.written.specs.Written.Succeed.{none, more}
+use Rattle.written.specs.Written.{AllRan, figuresIn, verdictOn}
+use Rattle.written.specs.Written.AllRan.{none, more}
 use Rattle.written.specs.Written.Written.{nothing, type-unhandled, result-wrong, tlvs-broken, tlvs-missing, tlv-at-fault, port-unknown, port-down}
 use Rattle.written.specs.Written.Written.{succeeded, failed, more-preferred, under-committed, reduced, delegation, flows}
 use Rattle.written.proofs.Host.{By}
@@ -63,8 +63,8 @@ fault-ends single target other (i ∷ is) =
     on e = record { before = i ∷ e .before; both = ap (λ (ks : List Item). i ∷ ks) (e .both) }
 
 -- ---- one command more that succeeds
-succeed-one : {channels : List ℕ} {p : ℕ} {card now : Card} {cs : List (List ℕ)} (c : List ℕ) → Succeed channels p card cs now
-    → ranOf channels now p c .code ≡ 0 → Succeed channels p card (cs ++ (c ∷ [])) (ranOf channels now p c .card)
+succeed-one : {channels : List ℕ} {p : ℕ} {card now : Card} {cs : List (List ℕ)} (c : List ℕ) → AllRan channels p card cs now
+    → ranOf channels now p c .code ≡ 0 → AllRan channels p card (cs ++ (c ∷ [])) (ranOf channels now p c .card)
 succeed-one c none e = more e none
 succeed-one c (more d r) e = more d (succeed-one c r e)
 
@@ -136,17 +136,17 @@ module _ (t : Tables) (card : Card) (m : List ℕ) (room : ℕ) (octets : Octets
 
       -- 144
       module _ (k : h .kind ≡ 144) where
-        all-writes : (now : Card) → Succeed (t .channels) p card (commandsIn s) now → So (allGood h now)
+        all-writes : (now : Card) → AllRan (t .channels) p card (commandsIn s) now → So (allGood h now)
         unfolding allGood
         all-writes now r =
             by-cond So (eqb (h .result) 2) _ _ (λ e. succeeded v k (eqb-true (h .result) 2 e) r (kinds-back .success h fits)) (λ _. nothing)
 
         -- the commands before are done, and the first of cs is number `number`
         commands-write : (now : Card) (number : ℕ) (before cs : List (List ℕ)) → number ≡ length before + 1 → commandsIn s ≡ before ++ cs
-            → Succeed (t .channels) p card before now → So (commandsFrom (t .channels) h id p now number cs)
+            → AllRan (t .channels) p card before now → So (commandsFrom (t .channels) h id p now number cs)
         unfolding commandsFrom
         commands-write now number before [] n e r =
-            all-writes now (subst (λ (cs : List (List ℕ)). Succeed (t .channels) p card cs now) (sym (e ∙ append-nil before)) r)
+            all-writes now (subst (λ (cs : List (List ℕ)). AllRan (t .channels) p card cs now) (sym (e ∙ append-nil before)) r)
         commands-write now number before (c ∷ cs) n e r =
             by-cond So (eqb (ranOf (t .channels) now p c .code) 0) _ _
             (λ z. commands-write _ (number + 1) (before ++ (c ∷ [])) cs (omega (arith, length-append before (c ∷ [])))
@@ -161,12 +161,12 @@ module _ (t : Tables) (card : Card) (m : List ℕ) (room : ℕ) (octets : Octets
         control-writes = commands-write card 1 [] (commandsIn s) refl refl none
 
       -- 146
-      reallocation-writes : h .kind ≡ 146 → So (reallocated (t .ids) (t .channels) card h p (requestOf m))
+      reallocation-writes : h .kind ≡ 146 → So (reallocated (t .ids) (t .channels) card h p (figuresIn m))
       unfolding reallocated transferFails transferGives
       reallocation-writes k =
-          by-cond So (ltb (requestOf m .required) (requestOf m .preferred)) _ _
+          by-cond So (ltb (figuresIn m .required) (figuresIn m .preferred)) _ _
           (λ a. more-preferred v k (ltb-true _ _ a) (carries 147 4 0x67 _ (omega arith) (omega arith)))
-          (λ a. by-cond So (ltb (requestOf m .required) (committedOf (t .channels) (card .pool) p)) _ _
+          (λ a. by-cond So (ltb (figuresIn m .required) (committedOf (t .channels) (card .pool) p)) _ _
           (λ b. under-committed v k (ltb-true _ _ b) (carries 147 4 0 _ (omega arith) (omega arith)))
           (λ b. reduced v k (ltb-false _ _ a) (ltb-false _ _ b) (carries 147 3 0 _ (omega arith) (omega arith))))
 

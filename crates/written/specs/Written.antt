@@ -27,18 +27,18 @@ use Rattle.replyback.specs.Kinds.{Admits, Requests, RefusesPort, Fails, Carries
 use Rattle.demand3.specs.Calls.{Tables, Call}
 use Rattle.demand3.specs.Calls.Call.{join, ask, message}
 
--- commands that succeed on port p one after the other, from the first card to the last
-pub data Succeed (channels : List ℕ) (p : ℕ) : Card → List (List ℕ) → Card → Type 0 where
-  none : {card : Card} → Succeed channels p card [] card
+-- commands that all succeed on port p, one after the other, from the first card to the last
+pub data AllRan (channels : List ℕ) (p : ℕ) : Card → List (List ℕ) → Card → Type 0 where
+  none : {card : Card} → AllRan channels p card [] card
   more : {card last : Card} {c : List ℕ} {cs : List (List ℕ)} → ranOf channels card p c .code ≡ 0
-      → Succeed channels p (ranOf channels card p c .card) cs last → Succeed channels p card (c ∷ cs) last
+      → AllRan channels p (ranOf channels card p c .card) cs last → AllRan channels p card (c ∷ cs) last
 
--- the TLVs of a message, and its Bandwidth-Request
+-- the TLVs of a message, and the figures of its Bandwidth-Request
 abbrev pub tlvsOf : List ℕ → List ℕ
 tlvsOf m = drop 16 m
 
-abbrev pub requestOf : List ℕ → Request
-requestOf m = requestIn (firstOf 0x0016 (itemsOf (tlvsOf m)))
+abbrev pub figuresIn : List ℕ → Request
+figuresIn m = requestIn (firstOf 0x0016 (itemsOf (tlvsOf m)))
 
 module _ (t : Tables) (card : Card) where
   -- what the table says of a message
@@ -68,22 +68,22 @@ module _ (t : Tables) (card : Card) where
     -- ---- past the table, on port p
     -- 144: all commands succeed, or those before c, and c fails
     succeeded : {m w : List ℕ} {room p : ℕ} {last : Card} → verdictOn m ≡ Passed p → headerIn m .kind ≡ 144 → headerIn m .result ≡ 2
-        → Succeed (t .channels) p card (commandsIn (tlvsOf m)) last
+        → AllRan (t .channels) p card (commandsIn (tlvsOf m)) last
         → Says w (replyHeader (headerIn m) 91 3 0) [] → Written (message m room) w
     failed : {m w c : List ℕ} {room p : ℕ} {last : Card} (before after : List (List ℕ)) → verdictOn m ≡ Passed p → headerIn m .kind ≡ 144
-        → commandsIn (tlvsOf m) ≡ before ++ (c ∷ after) → Succeed (t .channels) p card before last
+        → commandsIn (tlvsOf m) ≡ before ++ (c ∷ after) → AllRan (t .channels) p card before last
         → (ranOf (t .channels) last p c .code ≡ 0 → ⊥)
         → Fails w (headerIn m) (ranOf (t .channels) last p c .code) (idAt (t .ids) p) (length before + 1) c → Written (message m room) w
     -- 146: Bandwidth Transfer (147). Failure carries the present delegation, Success the new one
     more-preferred : {m w : List ℕ} {room p : ℕ} → verdictOn m ≡ Passed p → headerIn m .kind ≡ 146
-        → requestOf m .required < requestOf m .preferred
+        → figuresIn m .required < figuresIn m .preferred
         → Carries w (replyHeader (headerIn m) 147 4 0x67) (idAt (t .ids) p) (portAt card p .delegation) → Written (message m room) w
     under-committed : {m w : List ℕ} {room p : ℕ} → verdictOn m ≡ Passed p → headerIn m .kind ≡ 146
-        → requestOf m .required < committedOf (t .channels) (card .pool) p
+        → figuresIn m .required < committedOf (t .channels) (card .pool) p
         → Carries w (replyHeader (headerIn m) 147 4 0) (idAt (t .ids) p) (portAt card p .delegation) → Written (message m room) w
     reduced : {m w : List ℕ} {room p : ℕ} → verdictOn m ≡ Passed p → headerIn m .kind ≡ 146
-        → requestOf m .preferred ≤ requestOf m .required → committedOf (t .channels) (card .pool) p ≤ requestOf m .required
-        → Carries w (replyHeader (headerIn m) 147 3 0) (idAt (t .ids) p) (reducedTo (t .channels) card p (requestOf m .preferred))
+        → figuresIn m .preferred ≤ figuresIn m .required → committedOf (t .channels) (card .pool) p ≤ figuresIn m .required
+        → Carries w (replyHeader (headerIn m) 147 3 0) (idAt (t .ids) p) (reducedTo (t .channels) card p (figuresIn m .preferred))
         → Written (message m room) w
     -- 148: the delegation. 149: the flows in order
     delegation : {m w : List ℕ} {room p : ℕ} → verdictOn m ≡ Passed p → headerIn m .kind ≡ 148
