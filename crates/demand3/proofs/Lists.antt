@@ -1,4 +1,5 @@
 -- On a card that agrees with a ledger, the list of a port's flows that a host reads is its line's.
+--     rows-here, rows-flows     the rows of a port's flows, and that every sum over them is the line's
 --     lists-times     each flow of the line stands in it once, and no other
 --     lists-count     it has as many flows as the line
 --     lists-order     in order
@@ -98,7 +99,7 @@ module _ (t : Tables) (card : Card) (l : Ledger) (a : Agree t card l) (taken : T
   abbrev rows : List ℕ
   rows = flowsAt (t .channels) card p
 
-  rows-here : rows ≡ rowsInOrder (t .channels) (card .pool) p
+  pub rows-here : rows ≡ rowsInOrder (t .channels) (card .pool) p
   unfolding flowsAt
   rows-here = ap (λ (b : Bool). cond b (rowsInOrder (t .channels) (card .pool) p) []) (has-port t card l a taken p port)
 
@@ -112,7 +113,7 @@ module _ (t : Tables) (card : Card) (l : Ledger) (a : Agree t card l) (taken : T
       (take-all 16 (rowsOf (card .pool) p) (omega (arith, rows-length (card .pool) p, count-is t card l a p h, a .at p h .few)))
 
   -- every sum over them is the line's
-  rows-flows : (w : ℕ → ℕ) → sumBy w rows ≡ flowSum t (λ k c. w k) (l p .flows)
+  pub rows-flows : (w : ℕ → ℕ) → sumBy w rows ≡ flowSum t (λ k c. w k) (l p .flows)
   rows-flows w =
       ap (sumBy w) rows-are
       ∙ listed-by (t .channels) (rowsOf (card .pool) p) .same w

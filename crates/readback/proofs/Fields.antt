@@ -76,7 +76,7 @@ read-back =
     record {
       message = message-back;
       tlv = λ t c. reads t c refl;
-      target = λ id. reads 0x1000 (tlvOf 0x0001 id) (one-id id, same-id id);
+      target = λ id. reads 0x1000 (tlvOf 0x0001 id) (one-id id, same-id id, items-last 0x0001 id);
       status = λ kind inner. reads 0x0106 _ (status-back 0 kind inner, refl, refl);
       command = λ code accounting inner. reads 0x0011 _ (command-back code accounting inner, refl);
       allocation = λ amount. reads 0x0015 (oct32 amount) (refl, omega arith);

@@ -29,7 +29,7 @@ pub record ReadBack : Type 0 where
   pub message : (h : Header) (body : List ℕ) → MessageBack h body
   -- any TLV, a copy of a received one and a bare header among them
   pub tlv : (t : ℕ) (c : List ℕ) → Reads (tlvOf t c) t (λ x. x ≡ c)
-  pub target : (id : List ℕ) → Reads (targetOf id) 0x1000 (λ c. (circuitIds c ≡ 1) × (circuitId c ≡ id))
+  pub target : (id : List ℕ) → Reads (targetOf id) 0x1000 (λ c. (circuitIds c ≡ 1) × (circuitId c ≡ id) × (itemsOf c ≡ item 0x0001 id ∷ []))
   pub status : (kind : ℕ) (inner : List ℕ)
       → Reads (statusOf kind inner) 0x0106 (λ c. (statusIn c ≡ record { kind = kind; text = 0 }) × (statusText c ≡ []) × (statusTlvs c ≡ inner))
   pub command : (code accounting : ℕ) (inner : List ℕ)

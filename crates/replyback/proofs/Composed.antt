@@ -31,7 +31,7 @@ abbrev pub targetContent : List ℕ → List ℕ
 targetContent id = read-back .target id .content
 
 pub names : (id : List ℕ) → Names (targetContent id) id
-names id = let f = read-back .target id .fields in record { one = f .0; same = f .1 }
+names id = let f = read-back .target id .fields in record { one = f .0; same = f .1; alone = f .2 }
 
 pub target-before : (id rest : List ℕ) {is : List Item} → itemsOf rest ≡ is → itemsOf (targetOf id ++ rest) ≡ item 0x1000 (targetContent id) ∷ is
 target-before id rest e = before (read-back .target id) rest e

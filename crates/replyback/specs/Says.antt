@@ -20,10 +20,11 @@ pub record Says (w : List ℕ) (h : Header) (is : List Item) : Type 0 where
   pub tlvs : itemsOf (drop 16 w) ≡ is
   pub passes : listOk (depthOf (h .result)) false (drop 16 w) ≡ true
 
--- a Target with content c holds one circuit id, this one
+-- a Target with content c holds one circuit id, this one, and nothing else
 pub record Names (c id : List ℕ) : Type 0 where
   pub one : circuitIds c ≡ 1
   pub same : circuitId c ≡ id
+  pub alone : itemsOf c ≡ item 0x0001 id ∷ []
 
 -- a Status-Info with content c gives this message type and an empty text, and encloses these TLVs
 pub record Encloses (c : List ℕ) (kind : ℕ) (is : List Item) : Type 0 where

@@ -1,0 +1,4 @@
+pub mod Codes
+pub mod Tlvs
+pub mod Items
+pub mod Messages

@@ -1,0 +1,4 @@
+pub mod Good
+pub mod Host
+pub mod Messages
+pub mod Every
