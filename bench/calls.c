@@ -110,19 +110,20 @@ static size_t command(uint8_t *m, size_t n, unsigned code, ancp_flow f) {
 
 static size_t close16(uint8_t *m, size_t n) { put16(m, 2, (unsigned)(n - 4)); put16(m, 14, (unsigned)(n - 4)); return n; }
 
+/* each of these messages leaves the card as it was, so that it is copied once */
 static double measure(const char *what, const ancp_card *c, const uint8_t *m, size_t n) {
     static ancp_card d;
     int rounds = 4000;
     unsigned answer = 0;
     size_t length = 0;
     double t0 = now();
-    for (int r = 0; r < rounds; r++) { d = *c; answer = ancp_card_message(&d, &tables, m, n, reply, sizeof reply, &length); }
+    d = *c;
+    for (int r = 0; r < rounds; r++) answer = ancp_card_message(&d, &tables, m, n, reply, sizeof reply, &length);
     double ns = (now() - t0) / rounds;
     printf("%-50s %8.0f ns   (answer %u, reply of %zu octets)\n", what, ns, answer, length);
     return ns;
 }
 
-/* a message that gets 15 keeps the card, which is therefore not copied for it */
 static void unusable(const char *what, ancp_card *c, const uint8_t *m, size_t n) {
     int rounds = 20000;
     unsigned answer = 0;

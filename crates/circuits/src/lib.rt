@@ -78,6 +78,9 @@ fn passed_over(ids: &[u8; 4096], rows: usize, k: usize, octet: u8, from: usize) 
     ensures { λ r. ⌜ (from ≤ r) × (r ≤ rows) × ((p : ℕ) → from ≤ p → p < r → idOctet (now (ids .entry)) k p ≡ octet → ⊥) ⌝ }
 {
     let mut p = from;
+    if p < rows && ids[p * 64 + k] == octet {
+        return p;
+    }
     while p + 8 <= rows && none_of(ids, p, k, octet, 8) {
         p += 8;
     }
