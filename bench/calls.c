@@ -191,7 +191,7 @@ static void messages(void) {
     }
 }
 
-/* ---- stack: the free part of a thread's own stack is painted before a call, and looked at behind it; a call's frames lie below this one's */
+/* ---- stack: the free part of a thread's own stack is painted before a call, and looked at after it; a call's frames lie below this one's */
 static uint8_t space[1 << 18] __attribute__((aligned(4096)));
 enum { GAP = 512 }; /* room for paint's own frame, which is not painted */
 

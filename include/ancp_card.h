@@ -89,7 +89,7 @@ typedef struct { uint32_t number; } ancp_counter;
 typedef struct { size_t port_count, channel_count, entry_count; ancp_counter counter; bool white_cac, add_cac; } ancp_head;
 typedef struct { ancp_port ports[ANCP_PORTS]; ancp_pool pool; ancp_head head; } ancp_core;
 
-/* arrays that are lent beside the core stand here, behind it */
+/* arrays that are lent beside the core stand here, after it */
 typedef struct { ancp_core core; } ancp_card;
 
 /* the channels of a port's active flows in order: the first `count` of `rows` */
@@ -109,7 +109,7 @@ ancp_started ancp_card_started(const uint8_t *ids, size_t ports, const uint32_t 
 /* Any call: *core and the start of `reply` are written, nothing else; *call lies outside both. Nothing of the core is copied but one port's
    record and its head (counts, counter, switches). */
 ancp_answer ancp_card_call(ancp_core *core, const ancp_call *call, const uint8_t *ids, const uint32_t *channels, const uint32_t *entries,
-                           const uint8_t *octets, size_t n, uint8_t *reply, size_t room);
+                           const uint8_t *octets, size_t n, uint8_t *reply, size_t space);
 
 /* the readers take the core by value */
 bool ancp_card_up_in(ancp_core core, size_t p);
@@ -140,17 +140,17 @@ uint32_t ancp_numbers_left(uint32_t number, uint32_t limit);
 
 /* ---- for the host. Each call updates *card and returns its number; `length` gets how many octets of reply are written, and beyond them the
    buffer is kept. Numbers 1 and 3 to 16 keep card and buffer. */
-static inline uint8_t ancp_calls(ancp_card *card, const ancp_tables *t, const ancp_call *call, const uint8_t *octets, size_t n, uint8_t *reply, size_t room,
+static inline uint8_t ancp_calls(ancp_card *card, const ancp_tables *t, const ancp_call *call, const uint8_t *octets, size_t n, uint8_t *reply, size_t space,
                                  size_t *length) {
-    ancp_answer a = ancp_card_call(&card->core, call, t->ids, t->channels, t->entries, octets, n, reply, room);
+    ancp_answer a = ancp_card_call(&card->core, call, t->ids, t->channels, t->entries, octets, n, reply, space);
     if (length) *length = a.length;
     return a.number;
 }
 
 /* a call without a message, and one without a reply either */
-static inline uint8_t ancp_replies(ancp_card *card, const ancp_tables *t, ancp_call call, uint8_t *reply, size_t room, size_t *length) {
+static inline uint8_t ancp_replies(ancp_card *card, const ancp_tables *t, ancp_call call, uint8_t *reply, size_t space, size_t *length) {
     uint8_t none = 0;
-    return ancp_calls(card, t, &call, &none, 0, reply, room, length);
+    return ancp_calls(card, t, &call, &none, 0, reply, space, length);
 }
 static inline uint8_t ancp_silent(ancp_card *card, const ancp_tables *t, ancp_call call) {
     uint8_t none = 0;
@@ -189,8 +189,8 @@ static inline uint8_t ancp_card_set_delegation(ancp_card *card, const ancp_table
 }
 
 /* A white flow begins if there is room and, under White-List-CAC, its rate fits; for a grey one (ANCP_GREY) a message to the server is written. */
-static inline uint8_t ancp_card_join(ancp_card *card, const ancp_tables *t, size_t p, const ancp_flow *f, uint8_t *reply, size_t room, size_t *length) {
-    return ancp_replies(card, t, ancp_call_with(ANCP_CALL_JOIN, p, f), reply, room, length);
+static inline uint8_t ancp_card_join(ancp_card *card, const ancp_tables *t, size_t p, const ancp_flow *f, uint8_t *reply, size_t space, size_t *length) {
+    return ancp_replies(card, t, ancp_call_with(ANCP_CALL_JOIN, p, f), reply, space, length);
 }
 
 /* The flow ends, whoever began it. */
@@ -199,15 +199,15 @@ static inline uint8_t ancp_card_leave(ancp_card *card, const ancp_tables *t, siz
 }
 
 /* Writes a request for bandwidth (146) to the server, which is then open. */
-static inline uint8_t ancp_card_ask(ancp_card *card, const ancp_tables *t, size_t p, uint32_t required, uint32_t preferred, uint8_t *reply, size_t room,
+static inline uint8_t ancp_card_ask(ancp_card *card, const ancp_tables *t, size_t p, uint32_t required, uint32_t preferred, uint8_t *reply, size_t space,
                                     size_t *length) {
-    return ancp_replies(card, t, ancp_call_of(ANCP_CALL_ASK, p, required, preferred), reply, room, length);
+    return ancp_replies(card, t, ancp_call_of(ANCP_CALL_ASK, p, required, preferred), reply, space, length);
 }
 
 /* A message from the server is carried out, and its answer, if one is due, is written. */
-static inline uint8_t ancp_card_message(ancp_card *card, const ancp_tables *t, const uint8_t *octets, size_t n, uint8_t *reply, size_t room, size_t *length) {
+static inline uint8_t ancp_card_message(ancp_card *card, const ancp_tables *t, const uint8_t *octets, size_t n, uint8_t *reply, size_t space, size_t *length) {
     static const ancp_call message = {ANCP_CALL_MESSAGE, 0, 0, 0, {0, 0, {0, 0, 0, 0}, {0, 0, 0, 0}}};
-    return ancp_calls(card, t, &message, octets, n, reply, room, length);
+    return ancp_calls(card, t, &message, octets, n, reply, space, length);
 }
 
 /* What a host may read. Of a number that is no port's: down, 0, no flows. */

@@ -12,10 +12,10 @@ pub enum Call {
     Up { port: usize },
     Down { port: usize },
     SetDelegation { port: usize, amount: u32 },
-    Join { port: usize, flow: HostFlow, room: usize },
+    Join { port: usize, flow: HostFlow, space: usize },
     Leave { port: usize, flow: HostFlow },
-    Ask { port: usize, required: u32, preferred: u32, room: usize },
-    Message { octets: Vec<u8>, port: usize, room: usize },
+    Ask { port: usize, required: u32, preferred: u32, space: usize },
+    Message { octets: Vec<u8>, port: usize, space: usize },
 }
 
 impl Call {
@@ -87,9 +87,9 @@ fn fill_port(rng: &mut Rng, s: &Start, port: usize, flows: usize, by_join: bool,
     let from = rng.below(s.channel_count);
     let rows = (0..flows).map(|i| s.channels[(from + i) % s.channel_count].flow);
     if by_join {
-        calls.extend(rows.map(|flow| Call::Join { port, flow, room: 4608 }));
+        calls.extend(rows.map(|flow| Call::Join { port, flow, space: 4608 }));
     } else {
-        calls.push(Call::Message { octets: add_all(s, port, rows), port, room: 4608 });
+        calls.push(Call::Message { octets: add_all(s, port, rows), port, space: 4608 });
     }
 }
 
@@ -114,10 +114,10 @@ pub fn call(rng: &mut Rng, s: &Start, card: &Card) -> Call {
         0..=6 => Call::Up { port },
         7..=8 => Call::Down { port },
         9..=16 => Call::SetDelegation { port, amount: delegation(rng, s, card, port) },
-        17..=42 => Call::Join { port, flow: joined_flow(rng, s), room: room(rng) },
+        17..=42 => Call::Join { port, flow: joined_flow(rng, s), space: space(rng) },
         43..=51 => Call::Leave { port, flow: left_flow(rng, s, card, port) },
         52..=59 => ask(rng, card, port),
-        _ => Call::Message { octets: Maker { rng, start: s, card, port }.message(), port, room: room(rng) },
+        _ => Call::Message { octets: Maker { rng, start: s, card, port }.message(), port, space: space(rng) },
     }
 }
 
@@ -130,7 +130,7 @@ fn port(rng: &mut Rng, s: &Start) -> usize {
     }
 }
 
-fn room(rng: &mut Rng) -> usize {
+fn space(rng: &mut Rng) -> usize {
     match rng.below(20) {
         0 => rng.pick(&[4607, 0, 1, 16, 4000]),
         1 => 4700,
@@ -150,7 +150,7 @@ fn ask(rng: &mut Rng, card: &Card, port: usize) -> Call {
     let delegation = card.delegation(port);
     let required = near(rng, &[delegation, delegation.saturating_add(1), u32::MAX]);
     let preferred = near(rng, &[required, required.saturating_add(1), u32::MAX]);
-    Call::Ask { port, required, preferred, room: room(rng) }
+    Call::Ask { port, required, preferred, space: space(rng) }
 }
 
 fn listed_flow(rng: &mut Rng, s: &Start) -> HostFlow {

@@ -225,8 +225,8 @@ fn show(d: &Difference) {
     show_start(&d.start);
     for call in &d.calls {
         match call {
-            Call::Message { octets, room, .. } => println!("message, room {room}: {}", hex(octets)),
-            Call::Join { port, flow: f, room } => println!("join, port {port}, room {room}: {}", flow(f)),
+            Call::Message { octets, space, .. } => println!("message, space {space}: {}", hex(octets)),
+            Call::Join { port, flow: f, space } => println!("join, port {port}, space {space}: {}", flow(f)),
             Call::Leave { port, flow: f } => println!("leave, port {port}: {}", flow(f)),
             other => println!("{other:?}"),
         }

@@ -124,10 +124,10 @@ pub fn on_card(card: &mut Card, call: &Call, buffer: &mut [u8]) -> Answer {
         Call::Up { port } => card.port_up(*port),
         Call::Down { port } => card.port_down(*port),
         Call::SetDelegation { port, amount } => card.set_delegation(*port, *amount),
-        Call::Join { port, flow, room } => card.join(*port, flow, &mut buffer[..*room]),
+        Call::Join { port, flow, space } => card.join(*port, flow, &mut buffer[..*space]),
         Call::Leave { port, flow } => card.leave(*port, flow),
-        Call::Ask { port, required, preferred, room } => card.ask(*port, *required, *preferred, &mut buffer[..*room]),
-        Call::Message { octets, room, .. } => card.message(octets, &mut buffer[..*room]),
+        Call::Ask { port, required, preferred, space } => card.ask(*port, *required, *preferred, &mut buffer[..*space]),
+        Call::Message { octets, space, .. } => card.message(octets, &mut buffer[..*space]),
     }
 }
 
@@ -137,10 +137,10 @@ pub fn on_proved(card: &mut Proved, call: &Call, buffer: &mut [u8]) -> ProvedAns
         Call::Up { port } => card.port_up(*port),
         Call::Down { port } => card.port_down(*port),
         Call::SetDelegation { port, amount } => card.set_delegation(*port, *amount),
-        Call::Join { port, flow, room } => card.join(*port, flow, &mut buffer[..*room]),
+        Call::Join { port, flow, space } => card.join(*port, flow, &mut buffer[..*space]),
         Call::Leave { port, flow } => card.leave(*port, flow),
-        Call::Ask { port, required, preferred, room } => card.ask(*port, *required, *preferred, &mut buffer[..*room]),
-        Call::Message { octets, room, .. } => card.message(octets, &mut buffer[..*room]),
+        Call::Ask { port, required, preferred, space } => card.ask(*port, *required, *preferred, &mut buffer[..*space]),
+        Call::Message { octets, space, .. } => card.message(octets, &mut buffer[..*space]),
     }
 }
 

@@ -114,7 +114,7 @@ extern "C" {
         octets: *const u8,
         n: usize,
         reply: *mut u8,
-        room: usize,
+        space: usize,
     ) -> RawAnswer;
     fn ancp_card_up_in(core: RawCore, p: usize) -> bool;
     fn ancp_card_delegation_in(core: RawCore, p: usize) -> u32;

@@ -46,14 +46,14 @@ fn first(rng: &mut Rng) -> u32 {
     }
 }
 
-/// Ids that all differ in the first `count` rows; the rows behind are anything.
+/// Ids that all differ in the first `count` rows; the rows that follow are anything.
 fn ids(rng: &mut Rng, count: usize) -> Vec<HostId> {
     let mut seen = HashSet::new();
     let mut rows = Vec::new();
     while rows.len() < MAX_PORTS {
         let id = id(rng);
         if rows.len() >= count || seen.insert(id.clone()) {
-            rows.push(junk_behind(rng, HostId::new(&id)));
+            rows.push(junk_after(rng, HostId::new(&id)));
         }
     }
     rows
@@ -68,8 +68,8 @@ fn id(rng: &mut Rng) -> Vec<u8> {
     }
 }
 
-/// Fills what lies behind the id: nobody may read it.
-fn junk_behind(rng: &mut Rng, mut row: HostId) -> HostId {
+/// Fills what lies after the id: nobody may read it.
+fn junk_after(rng: &mut Rng, mut row: HostId) -> HostId {
     if rng.chance(50) {
         let junk = rng.octet();
         let length = (row.length as usize).min(63);
@@ -223,7 +223,7 @@ fn large(rng: &mut Rng, limit: usize) -> usize {
     rng.pick(&[limit + 1, limit + 2, 2 * limit, usize::MAX, 1 << 32, limit])
 }
 
-/// Damages a row that is meant, or the first one behind.
+/// Damages a row that is meant, or the first one after those.
 fn damage_row<T>(rng: &mut Rng, count: usize, rows: &mut [T], with: impl Fn(&mut Rng, &mut T)) {
     let row = rng.from_to(0, count.min(rows.len() - 1));
     with(rng, &mut rows[row]);
@@ -238,11 +238,11 @@ fn damage_bits(rng: &mut Rng, row: &mut HostEntry) {
     }
 }
 
-/// Two rows get the same id; what lies behind it may differ.
+/// Two rows get the same id; what lies after it may differ.
 fn repeat_id(rng: &mut Rng, s: &mut Start) {
     let (from, to) = two_rows(rng, s.ports, MAX_PORTS);
     s.ids[to] = s.ids[from];
-    s.ids[to] = junk_behind(rng, s.ids[to]);
+    s.ids[to] = junk_after(rng, s.ids[to]);
 }
 
 fn repeat_channel(rng: &mut Rng, s: &mut Start) {

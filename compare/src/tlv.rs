@@ -65,7 +65,7 @@ fn sound_inside(tlv: &Tlv, levels: u32, in_status: bool) -> bool {
     }
 }
 
-/// What a holder holds behind its leading octets; none if it is too short for them.
+/// What a holder holds after its leading octets; none if it is too short for them.
 fn embedded<'a>(tlv: &Tlv<'a>) -> Option<&'a [u8]> {
     match tlv.kind {
         TARGET => Some(tlv.content),

@@ -42,11 +42,11 @@ fn does(pair: &mut Pair, call: &Call) {
 }
 
 fn join(port: usize, channel: u32) -> Call {
-    Call::Join { port, flow: flow(channel), room: 4608 }
+    Call::Join { port, flow: flow(channel), space: 4608 }
 }
 
 fn message(octets: Vec<u8>) -> Call {
-    Call::Message { octets, port: 0, room: 4608 }
+    Call::Message { octets, port: 0, space: 4608 }
 }
 
 fn of_hex(text: &str) -> Vec<u8> {

@@ -11,7 +11,7 @@ use std::time::Instant;
 const ROUNDS: usize = 2001;
 const COPIES: usize = 16;
 const PORT: usize = 63;
-const ROOM: usize = 4608;
+const SPACE: usize = 4608;
 
 /// Both cards in the same state.
 #[derive(Clone)]
@@ -39,7 +39,7 @@ fn main() {
 
 fn host_calls(s: &Start, pool: &str, state: &State) {
     for (name, row) in [("first", 0), ("last", 255)] {
-        let join = Call::Join { port: PORT, flow: s.channels[row].flow, room: ROOM };
+        let join = Call::Join { port: PORT, flow: s.channels[row].flow, space: SPACE };
         measure(&format!("join, {name} of 256 channels, {pool} pool"), state, &join);
         let joined = after(state, &[join]);
         let leave = Call::Leave { port: PORT, flow: s.channels[row].flow };
@@ -63,7 +63,7 @@ fn reallocations(s: &Start, pool: &str, state: &State) {
     let amounts = [0, 0x16, 0, 8, 0x7F, 0, 0, 0, 0x7F, 0, 0, 0];
     measure(&format!("146, {pool} pool"), state, &message(s, 146, 0, &amounts));
     let lower = after(state, &[Call::SetDelegation { port: PORT, amount: 200_000_000 }]);
-    let ask = Call::Ask { port: PORT, required: 0x7F00_0000, preferred: 0x7F00_0001, room: ROOM };
+    let ask = Call::Ask { port: PORT, required: 0x7F00_0000, preferred: 0x7F00_0001, space: SPACE };
     measure(&format!("ask, {pool} pool"), &lower, &ask);
     let asked = after(&lower, &[ask]);
     let granted = [0, 0x15, 0, 4, 0x7F, 0, 0, 0];
@@ -73,7 +73,7 @@ fn reallocations(s: &Start, pool: &str, state: &State) {
 /// Prints the lower quartile of both over many rounds, taken in turn.
 fn measure(name: &str, state: &State, call: &Call) {
     check(name, state, call);
-    let mut buffer = vec![0; ROOM];
+    let mut buffer = vec![0; SPACE];
     let (mut proved, mut here) = (Vec::new(), Vec::new());
     for _ in 0..ROUNDS {
         proved.push(round(&state.proved, |card| on_proved(card, call, &mut buffer).length));
@@ -101,7 +101,7 @@ fn lower_quartile(mut times: Vec<f64>) -> f64 {
 /// Both must do the call, with the same reply.
 fn check(name: &str, state: &State, call: &Call) {
     let mut state = state.clone();
-    let (mut here, mut there) = (vec![0; ROOM], vec![0; ROOM]);
+    let (mut here, mut there) = (vec![0; SPACE], vec![0; SPACE]);
     let answer = on_card(&mut state.card, call, &mut here);
     let proved = on_proved(&mut state.proved, call, &mut there);
     assert_eq!((answer.number as u8, answer.length), (proved.number, proved.length), "{name}");
@@ -112,7 +112,7 @@ fn check(name: &str, state: &State, call: &Call) {
 
 fn after(state: &State, calls: &[Call]) -> State {
     let mut state = state.clone();
-    let mut buffer = vec![0; ROOM];
+    let mut buffer = vec![0; SPACE];
     for call in calls {
         assert_eq!(on_card(&mut state.card, call, &mut buffer).number as u8, 0, "{call:?}");
         assert_eq!(on_proved(&mut state.proved, call, &mut buffer).number, 0, "{call:?}");
@@ -173,7 +173,7 @@ fn message(s: &Start, kind: u8, result: u8, tlvs: &[u8]) -> Call {
 }
 
 fn message_of(octets: Vec<u8>) -> Call {
-    Call::Message { octets, port: PORT, room: ROOM }
+    Call::Message { octets, port: PORT, space: SPACE }
 }
 
 fn target(s: &Start) -> Vec<u8> {

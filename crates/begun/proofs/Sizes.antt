@@ -12,7 +12,7 @@ use Rattle.flows.specs.Flows.{width}
 use Rattle.flows.specs.declared.Flow.{Flow}
 use Rattle.writers.specs.Tlvs.{commandOf}
 use Rattle.writers.proofs.Tlvs.{length-flow, length-holder}
-use Rattle.flow_octets.specs.FlowOctets.{countOf, sourceWords, flowTlv}
+use Rattle.flow_octets.specs.FlowOctets.{sourceCount, sourceWords, flowTlv}
 use Rattle.flow_octets.proofs.FlowOctets.{length-octets, width-le}
 
 first-octets : (n : ℕ) (a : List ℕ) → length (octetsOf (take n a)) ≤ 4 * n
@@ -23,9 +23,9 @@ pub record Sized (f : Flow) : Type 0 where
   pub most : length (flowTlv f) ≤ 40
   pub words : length (flowTlv f) % 4 ≡ 0
 
-behind-le : (family sourced : ℕ) → sourceWords family sourced ≤ 4
+source-words-le : (family sourced : ℕ) → sourceWords family sourced ≤ 4
 unfolding sourceWords
-behind-le family sourced = go (eqb sourced 0)
+source-words-le family sourced = go (eqb sourced 0)
   where
     go : (b : Bool) → cond b 0 (width family) ≤ 4
     go true = omega arith
@@ -36,9 +36,9 @@ unfolding flowTlv
 sized f =
     let g = octetsOf (take (width (f .family)) (f .group)) in
     let s = octetsOf (take (sourceWords (f .family) (f .sourced)) (f .source)) in
-    let l = length-flow (countOf (f .sourced) + 1) (f .family % 256) (countOf (f .sourced)) g s in
+    let l = length-flow (sourceCount (f .sourced) + 1) (f .family % 256) (sourceCount (f .sourced)) g s in
     let w = width-le (f .family) in
-    let b = behind-le (f .family) (f .sourced) in
+    let b = source-words-le (f .family) (f .sourced) in
     let hg = first-octets (width (f .family)) (f .group) in
     let hs = first-octets (sourceWords (f .family) (f .sourced)) (f .source) in
     record { most = omega arith; words = omega (arith, l) }

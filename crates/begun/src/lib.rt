@@ -18,7 +18,7 @@ pub fn put_admission(reply: &mut [u8], transaction: u32, id: &[u8], f: Flow) -> 
     16 + n
 }
 
-// The Command directly behind the Target.
+// The Command directly after the Target.
 fn put_target_add(buf: &mut [u8], id: &[u8], f: Flow) -> usize
     requires { ⌜ (4592 ≤ length (now buf)) × (length (now id) < 64) ⌝ }
     ensures { λ r. ⌜ Wrote (targetOf (now (id .entry)) ++ commandOf 1 0 (flowTlv f)) r (now (buf .entry)) (now (buf .exit)) ⌝ }
@@ -52,7 +52,7 @@ pub fn put_reallocation(
     16 + n
 }
 
-// The Bandwidth-Request directly behind the Target.
+// The Bandwidth-Request directly after the Target.
 fn put_target_request(buf: &mut [u8], id: &[u8], required: u32, preferred: u32) -> usize
     requires { ⌜ (4592 ≤ length (now buf)) × (length (now id) < 64) ⌝ }
     ensures { λ r. ⌜ Wrote (targetOf (now (id .entry)) ++ requestOf required preferred) r (now (buf .entry)) (now (buf .exit)) ⌝ }

@@ -37,22 +37,22 @@ pub comes-for : {o : Card → Outcome} {p q : ℕ} {terms : Terms} {before after
 comes-for {o} {terms = terms} {before} {after} {areas} {left} {r} {text} {written} e g =
     subst (λ (n : ℕ). AreasComeTo o n terms before after areas left r text written) (sym e) g
 
-module _ (card : Card) (ids channels entries : List ℕ) (c : HostCall) (room : ℕ) where
+module _ (card : Card) (ids channels entries : List ℕ) (c : HostCall) (space : ℕ) where
   abbrev comes : ℕ → Outcome
-  comes n = outcomeOf (tablesOf card ids channels entries) card (hosted n c room)
+  comes n = outcomeOf (tablesOf card ids channels entries) card (hosted n c space)
 
   pub of-number : (n : ℕ) → c .which ≡ n → comes n ≡ comes (c .which)
   of-number n h = ap comes (sym h)
 
   module _ (octets : List ℕ) where
     abbrev called : Outcome
-    called = outcomeOf (tablesOf card ids channels entries) card (callOf c octets room)
+    called = outcomeOf (tablesOf card ids channels entries) card (callOf c octets space)
 
     pub of-host : c .which < 6 → comes (c .which) ≡ called
     unfolding callOf
     of-host l = rw (lt-ltb (c .which) 6 l)
 
-    pub of-message : 6 ≤ c .which → receivedOf ids channels card octets room ≡ called
+    pub of-message : 6 ≤ c .which → receivedOf ids channels card octets space ≡ called
     unfolding outcomeOf callOf
     of-message l = rw (le-ltb (c .which) 6 l)
 

@@ -33,19 +33,19 @@ tablesOf card ids channels entries =
 abbrev pub noFlow : Flow
 noFlow = record { family = 0; sourced = 0; group = replicate 4 0; source = replicate 4 0 }
 
--- the host's call of number n; `room` is how many octets the lent reply buffer has
+-- the host's call of number n; `space` is how many octets the lent reply buffer has
 unfoldable pub hosted : ℕ → HostCall → ℕ → Call
-hosted n c room =
+hosted n c space =
     cond (eqb n 0) (portUp (c .port))
     (cond (eqb n 1) (portDown (c .port))
     (cond (eqb n 2) (setDelegation (c .port) (c .amount))
-    (cond (eqb n 3) (join (c .port) (c .flow) room)
+    (cond (eqb n 3) (join (c .port) (c .flow) space)
     (cond (eqb n 4) (leave (c .port) (c .flow))
-    (ask (c .port) (c .amount) (c .preferred) room)))))
+    (ask (c .port) (c .amount) (c .preferred) space)))))
 
 -- the host's calls have the numbers 0 to 5; every other number is a message
 unfoldable pub callOf : HostCall → List ℕ → ℕ → Call
-callOf c octets room = cond (ltb (c .which) 6) (hosted (c .which) c room) (message octets room)
+callOf c octets space = cond (ltb (c .which) 6) (hosted (c .which) c space) (message octets space)
 
 -- the port whose record a call may read and change: the host's number, or that of the port which a usable message's
 -- Target names

@@ -17,7 +17,7 @@ ghost use Rattle.card.specs.Parts.{termsOf, AreasComeTo};
 ghost use Rattle.demand3.specs.Calls.{outcomeOf};
 ghost use Rattle.calls.specs.Calls.{tablesOf, noFlow, hosted, callOf, portAbout, CallGives};
 
-// The numbers of the calls; those of the host go from 0 on, and every number behind them is a message.
+// The numbers of the calls; those of the host go from 0 on, and every number after them is a message.
 pub const PORT_UP: u8 = 0;
 
 pub const PORT_DOWN: u8 = 1;
@@ -173,7 +173,7 @@ pub fn call_in(
         accounting,
         ids,
         channels,
-        Terms { at, head, x },
+        Terms { at, head, port: x },
         p,
         octets,
         reply,
@@ -201,13 +201,13 @@ fn host_in(
 {
     let p = call.port;
     if call.which == PORT_UP {
-        return card::port_up_in(Terms { at, head, x }, p);
+        return card::port_up_in(Terms { at, head, port: x }, p);
     }
     if call.which == PORT_DOWN {
-        return card::port_down_in(owner, Terms { at, head, x }, p);
+        return card::port_down_in(owner, Terms { at, head, port: x }, p);
     }
     if call.which == SET_DELEGATION {
-        let terms = Terms { at, head, x };
+        let terms = Terms { at, head, port: x };
         return card::set_delegation_in(owner, channel, charged, channels, terms, p, call.amount);
     }
     if call.which == JOIN {
@@ -219,16 +219,16 @@ fn host_in(
             ids,
             channels,
             entries,
-            Terms { at, head, x },
+            Terms { at, head, port: x },
             p,
             call.flow,
             reply,
         );
     }
     if call.which == LEAVE {
-        let terms = Terms { at, head, x };
+        let terms = Terms { at, head, port: x };
         return card::leave_in(owner, channel, channels, terms, p, call.flow);
     }
-    let terms = Terms { at, head, x };
+    let terms = Terms { at, head, port: x };
     joins::ask_in(ids, terms, p, call.amount, call.preferred, reply)
 }

@@ -1,7 +1,7 @@
 -- A call on the parts of a card, of every card with its terms.
 --     ports-are, .. port-is      what the terms say of the card
 --     is-here, is-up             the port's tests
---     comes                      from what was written, and the card behind it
+--     comes                      from what was written, and the card after it
 --     comes-kept                 nothing is written, and the port's record is kept
 --     comes-changed              nothing is written, and the port's record changes
 --     comes-wrote, comes-replied     a reply is written, and the port's record changes, or is kept
@@ -48,16 +48,16 @@ module _ {card : Card} {p : ℕ} {terms : Terms} (h : HasTerms card p terms) whe
   pub head-is : card .head ≡ terms .head
   head-is = ap (λ (t : Terms). t .head) (h .same)
 
-  pub record-is : portAt card (terms .at) ≡ terms .x
-  record-is = ap (λ (t : Terms). t .x) (h .same)
+  pub record-is : portAt card (terms .at) ≡ terms .port
+  record-is = ap (λ (t : Terms). t .port) (h .same)
 
-  pub port-is : p < 64 → portAt card p ≡ terms .x
+  pub port-is : p < 64 → portAt card p ≡ terms .port
   port-is l = ap (portAt card) (sym (h .place l)) ∙ record-is
 
   pub is-here : {b : Bool} → isPort (terms .head .«port_count») p ≡ b → hasPort card p ≡ b
   is-here e = ap (λ (n : ℕ). isPort n p) ports-are ∙ e
 
-  pub is-up : p < 64 → {b : Bool} → terms .x .up ≡ b → portAt card p .up ≡ b
+  pub is-up : p < 64 → {b : Bool} → terms .port .up ≡ b → portAt card p .up ≡ b
   is-up l e = ap (λ (y : Port). y .up) (port-is l) ∙ e
 
 -- the card with another table of ports

@@ -15,7 +15,7 @@ use Rattle.card.specs.Cards.{Card, Areas, coreOf, portAt, withPort, with
 use Rattle.card.specs.Outcome.{Outcome, Done, Ends}
 
 abbrev pub termsOf : ℕ → CardHead → Port → Terms
-termsOf at head x = record { at = at; head = head; x = x }
+termsOf at head x = record { at = at; head = head; port = x }
 
 -- what a call on the port at this place of the table asks of the card besides the pool's maps
 abbrev pub termsAt : Card → ℕ → Terms

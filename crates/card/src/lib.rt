@@ -37,7 +37,7 @@ pub struct Core {
     pub head: CardHead,
 }
 
-// What a call on a core by value returns: the core behind it, the number of 01's table, and how many octets of reply
+// What a call on a core by value returns: the core after it, the number of 01's table, and how many octets of reply
 // are written.
 #[repr(C)]
 pub struct Returned {
@@ -47,16 +47,16 @@ pub struct Returned {
 }
 
 // What a call asks of the card besides the pool's maps and the areas: the head, and of a call about one port that
-// port's record x, which lies at `at` in the table. A call about no port or about several does not look at x, and keeps
+// port's record, which lies at `at` in the table. A call about no port or about several does not look at it, and keeps
 // it.
 #[repr(C)]
 pub struct Terms {
     pub at: usize,
     pub head: CardHead,
-    pub x: Port,
+    pub port: Port,
 }
 
-// What a call on lent maps gives: the number of 01's table, how many octets of reply are written, the head behind it,
+// What a call on lent maps gives: the number of 01's table, how many octets of reply are written, the head after it,
 // and what becomes of the port's record.
 #[repr(C)]
 pub struct Effect {
@@ -239,7 +239,7 @@ pub fn port_down_in(owner: &mut [u8; 512], terms: Terms, p: usize) -> Effect
     if !is_port(terms.head.port_count, p) {
         return unchanged(terms, 7);
     }
-    let x = terms.x;
+    let x = terms.port;
     if !x.up {
         return unchanged(terms, 0);
     }
@@ -281,7 +281,7 @@ pub fn leave_in(
     if !is_port(terms.head.port_count, p) {
         return unchanged(terms, 7);
     }
-    let x = terms.x;
+    let x = terms.port;
     if !x.up {
         return unchanged(terms, 6);
     }
@@ -333,7 +333,7 @@ pub fn extras(core: Core) -> usize
     pool::extras_of(&pool.owner)
 }
 
-// The number that the next message takes: a host that stores it can start again behind it.
+// The number that the next message takes: a host that stores it can start again after it.
 pub fn next_transaction(core: Core) -> u32
     ensures { λ r. ⌜ r ≡ core .head .counter .number ⌝ }
 {

@@ -6,7 +6,7 @@ use lib.ListN.{getD}
 use Rattle.flows.specs.Words.{addressAt}
 use Rattle.flows.specs.Flows.{sameFlow}
 use Rattle.flows.specs.declared.Flow.{Flow}
-use Rattle.rows.specs.Rows.{firstOf}
+use Rattle.rows.specs.Rows.{firstRow}
 use Rattle.rows.specs.declared.Found.{Found}
 
 -- row i of 11 words: family, sourced, rate, group, source
@@ -31,4 +31,4 @@ isRow t f i = sameFlow (channelAt t i) f
 
 -- the first of n channels that is the flow's; the table has 256 rows
 unfoldable pub channelOf : List ℕ → ℕ → Flow → Found
-channelOf t n f = firstOf (min n 256) (isRow t f)
+channelOf t n f = firstRow (min n 256) (isRow t f)

@@ -19,7 +19,7 @@ use Rattle.items.proofs.Types.{first-fits}
 use Rattle.fields.specs.Fields.{circuitIds, lengthOk}
 use Rattle.writers.specs.Tlvs.{bareOf}
 use Rattle.writers.proofs.Tlvs.{length-tlv}
-use Rattle.checks.specs.Named.{beside, needed, missing, fromFault}
+use Rattle.checks.specs.Named.{alsoNeeded, needed, missing, fromFault}
 use Rattle.checks.specs.Table.{handled, idIn}
 
 -- ---- the types that are handled
@@ -47,23 +47,23 @@ module _ (k : ℕ) (n : k ≡ 144 → ⊥) where
 
 -- ---- what is missing
 module _ (k : ℕ) where
-  pub beside-144 : k ≡ 144 → beside k ≡ 0x0011 ∷ []
-  unfolding beside
-  beside-144 h = rw (eq-eqb k 144 h)
+  pub also-needed-144 : k ≡ 144 → alsoNeeded k ≡ 0x0011 ∷ []
+  unfolding alsoNeeded
+  also-needed-144 h = rw (eq-eqb k 144 h)
 
   module _ (n₁ : k ≡ 144 → ⊥) where
-    pub beside-146 : k ≡ 146 → beside k ≡ 0x0016 ∷ []
-    unfolding beside
-    beside-146 h = rw (ne-eqb k 144 n₁, eq-eqb k 146 h)
+    pub also-needed-146 : k ≡ 146 → alsoNeeded k ≡ 0x0016 ∷ []
+    unfolding alsoNeeded
+    also-needed-146 h = rw (ne-eqb k 144 n₁, eq-eqb k 146 h)
 
     module _ (n₂ : k ≡ 146 → ⊥) where
-      pub beside-147 : k ≡ 147 → beside k ≡ 0x0015 ∷ []
-      unfolding beside
-      beside-147 h = rw (ne-eqb k 144 n₁, ne-eqb k 146 n₂, eq-eqb k 147 h)
+      pub also-needed-147 : k ≡ 147 → alsoNeeded k ≡ 0x0015 ∷ []
+      unfolding alsoNeeded
+      also-needed-147 h = rw (ne-eqb k 144 n₁, ne-eqb k 146 n₂, eq-eqb k 147 h)
 
-      pub beside-none : (k ≡ 147 → ⊥) → beside k ≡ []
-      unfolding beside
-      beside-none h = rw (ne-eqb k 144 n₁, ne-eqb k 146 n₂, ne-eqb k 147 h)
+      pub also-needed-none : (k ≡ 147 → ⊥) → alsoNeeded k ≡ []
+      unfolding alsoNeeded
+      also-needed-none h = rw (ne-eqb k 144 n₁, ne-eqb k 146 n₂, ne-eqb k 147 h)
 
 length-bare : (t : ℕ) → length (bareOf t) ≡ 4
 length-bare t = length-tlv t []
@@ -115,15 +115,15 @@ one-by false true c x y z = omega arith
 one-by false false true x y z = omega arith
 one-by false false false x y z = omega arith
 
-pub beside-one : (k : ℕ) → length (beside k) ≤ 1
-unfolding beside
-beside-one k = one-by (eqb k 144) (eqb k 146) (eqb k 147) 0x0011 0x0016 0x0015
+pub also-needed-one : (k : ℕ) → length (alsoNeeded k) ≤ 1
+unfolding alsoNeeded
+also-needed-one k = one-by (eqb k 144) (eqb k 146) (eqb k 147) 0x0011 0x0016 0x0015
 
 -- what a message of a type needs
 pub all-words : (k : ℕ) (is : List Item) → Words 2 (missing (needed k) is)
 all-words k is =
     let h = missing-words (needed k) is in
-    record { most = omega (arith, h .most, beside-one k); whole = h .whole }
+    record { most = omega (arith, h .most, also-needed-one k); whole = h .whole }
 
 -- ---- the first TLV at fault
 module _ (single : ℕ) (target other : Bool) (i : Item) (is : List Item) where

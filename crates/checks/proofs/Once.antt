@@ -14,7 +14,7 @@ use lib.Dec.{eqb, ltb}
 use borrow.Author.Tests.{eqb-true}
 use Rattle.items.specs.Items.{Item, itemsOf, ofType, countOf, firstOf}
 use Rattle.fields.specs.Fields.{circuitIds, lengthOk}
-use Rattle.checks.specs.Named.{beside, needed, missing, singleOf, fromFault}
+use Rattle.checks.specs.Named.{alsoNeeded, needed, missing, singleOf, fromFault}
 use Rattle.checks.specs.Table.{faults}
 use Rattle.checks.proofs.Named.{missing-tells}
 
@@ -139,4 +139,4 @@ pub one-target : (kind : ℕ) (s : List ℕ) → missing (needed kind) (itemsOf 
     → (countOf 0x1000 (itemsOf s) ≡ 1) × (oneId (firstOf 0x1000 (itemsOf s)) ≡ true)
 unfolding countOf firstOf
 one-target kind s w f =
-    once-first oneId (ofType 0x1000 (itemsOf s)) (once-targets (singleOf kind) false false (itemsOf s) f) (present 0x1000 (beside kind) (itemsOf s) w)
+    once-first oneId (ofType 0x1000 (itemsOf s)) (once-targets (singleOf kind) false false (itemsOf s) f) (present 0x1000 (alsoNeeded kind) (itemsOf s) w)

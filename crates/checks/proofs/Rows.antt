@@ -79,7 +79,7 @@ module _ (ids : List ℕ) (count : ℕ) (s : List ℕ) where
 
 -- from the terms of a call on that port, whatever the maps hold
 pub located-by : {ids : List ℕ} {card : Card} {s : List ℕ} {named : ℕ} {terms : Terms} (pool : Pool) → HasTerms card named terms
-    → named ≡ portNamed ids (terms .head .«port_count») s → Located ids (withPool card pool) s named (terms .x .up)
+    → named ≡ portNamed ids (terms .head .«port_count») s → Located ids (withPool card pool) s named (terms .port .up)
 located-by {ids} {s = s} pool h e = record { port = e ∙ ap (λ (n : ℕ). portNamed ids n s) (sym (ports-are h)); state = λ l. is-up h l refl }
 
 module _ (ids : List ℕ) (card : Card) (s : List ℕ) {named : ℕ} {up : Bool} (g : Located ids card s named up) where

@@ -9,8 +9,8 @@ use Rattle.fields.specs.Fields.{circuitIds, lengthOk}
 use Rattle.writers.specs.Tlvs.{bareOf}
 
 -- the type that a message of a type needs beside Target: Command (144), Bandwidth-Request (146) or Bandwidth-Allocation (147)
-unfoldable pub beside : ℕ → List ℕ
-beside kind =
+unfoldable pub alsoNeeded : ℕ → List ℕ
+alsoNeeded kind =
     cond (eqb kind 144) (0x0011 ∷ [])
     (cond (eqb kind 146) (0x0016 ∷ [])
     (cond (eqb kind 147) (0x0015 ∷ [])
@@ -18,7 +18,7 @@ beside kind =
 
 -- all that it needs, in the row's order
 abbrev pub needed : ℕ → List ℕ
-needed kind = 0x1000 ∷ beside kind
+needed kind = 0x1000 ∷ alsoNeeded kind
 
 -- a bare header of each missing type, in their order
 unfoldable pub missing : List ℕ → List Item → List ℕ

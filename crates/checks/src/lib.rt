@@ -17,7 +17,7 @@ ghost use Rattle.items.specs.Items.{itemsOf};
 ghost use Rattle.circuits.specs.Circuits.{portOf};
 ghost use Rattle.replies.specs.Replies.{refusalOf};
 ghost use Rattle.card.specs.Cards.{Card};
-ghost use Rattle.checks.specs.Named.{beside, needed, missing, singleOf, fromFault};
+ghost use Rattle.checks.specs.Named.{alsoNeeded, needed, missing, singleOf, fromFault};
 ghost use Rattle.checks.specs.Table.{handled, resultOk, idIn, portNamed, Located, located, faults, namedRows, tableOf, copyOf, enclosedOf, refusedOf};
 
 pub enum Verdict {
@@ -121,11 +121,11 @@ fn is_missing(kind: u8, tlvs: &[u8]) -> bool
     if items::count_of(tlvs, TARGET) == 0 {
         return true;
     }
-    beside_missing(kind, tlvs)
+    also_needed_missing(kind, tlvs)
 }
 
-fn beside_missing(kind: u8, tlvs: &[u8]) -> bool
-    ensures { λ r. ⌜ r ≡ ltb 0 (length (missing (beside kind) (itemsOf (now (tlvs .entry))))) ⌝ }
+fn also_needed_missing(kind: u8, tlvs: &[u8]) -> bool
+    ensures { λ r. ⌜ r ≡ ltb 0 (length (missing (alsoNeeded kind) (itemsOf (now (tlvs .entry))))) ⌝ }
 {
     if kind == 144 {
         return items::count_of(tlvs, COMMAND) == 0;
@@ -263,12 +263,12 @@ fn put_missing(buf: &mut [u8], kind: u8, tlvs: &[u8]) -> usize
     ensures { λ r. ⌜ Wrote (missing (needed kind) (itemsOf (now (tlvs .entry)))) r (now (buf .entry)) (now (buf .exit)) ⌝ }
 {
     let n = put_if_missing(buf, TARGET, tlvs);
-    n + put_beside(&mut buf[n..], kind, tlvs)
+    n + put_also_needed(&mut buf[n..], kind, tlvs)
 }
 
-fn put_beside(buf: &mut [u8], kind: u8, tlvs: &[u8]) -> usize
+fn put_also_needed(buf: &mut [u8], kind: u8, tlvs: &[u8]) -> usize
     requires { ⌜ 4 ≤ length (now buf) ⌝ }
-    ensures { λ r. ⌜ Wrote (missing (beside kind) (itemsOf (now (tlvs .entry)))) r (now (buf .entry)) (now (buf .exit)) ⌝ }
+    ensures { λ r. ⌜ Wrote (missing (alsoNeeded kind) (itemsOf (now (tlvs .entry)))) r (now (buf .entry)) (now (buf .exit)) ⌝ }
 {
     if kind == 144 {
         return put_if_missing(buf, COMMAND, tlvs);

@@ -4,14 +4,14 @@ use mathlib.Core.Bool.{Bool}
 use mathlib.Core.List.{List}
 use lib.ListN.{getD, take, drop}
 use Rattle.flows.specs.Words.{same}
-use Rattle.rows.specs.Rows.{firstOf}
+use Rattle.rows.specs.Rows.{firstRow}
 use Rattle.rows.specs.declared.Found.{Found}
 
 -- what row p of 64 octets says of the id's length
 unfoldable pub idLength : List ℕ → ℕ → ℕ
 idLength ids p = getD ids (p * 64) 0
 
--- the circuit id of port p, which stands behind its length (one above 63, which start refuses, counts modulo 64)
+-- the circuit id of port p, which stands after its length (one above 63, which start refuses, counts modulo 64)
 unfoldable pub idAt : List ℕ → ℕ → List ℕ
 idAt ids p = take (idLength ids p % 64) (drop (p * 64 + 1) ids)
 
@@ -25,4 +25,4 @@ hasId ids id p = same (idAt ids p) id
 
 -- the first of n ports that has the circuit id; the table has 64 rows
 unfoldable pub portOf : List ℕ → ℕ → List ℕ → Found
-portOf ids n id = firstOf (min n 64) (hasId ids id)
+portOf ids n id = firstRow (min n 64) (hasId ids id)

@@ -4,7 +4,7 @@ ghost use Prim.Native.Nat.{ℕ, _+_, _≤_, _<_};
 ghost use lib.Dec.{eqb, ltb};
 ghost use lib.ListN.{length};
 ghost use Rattle.flows.specs.Words.{same};
-ghost use Rattle.rows.specs.Rows.{firstOf, noneOf, NextWith};
+ghost use Rattle.rows.specs.Rows.{firstRow, noneOf, NextWith};
 ghost use Rattle.circuits.specs.Circuits.{idAt, idOctet, hasId, portOf};
 use rows::Found;
 use rows::at_most;
@@ -45,7 +45,7 @@ pub fn port_of(ids: &[u8; 4096], n: usize, id: &[u8]) -> Found
 // The same row by row, for an id of any size.
 fn port_among(ids: &[u8; 4096], rows: usize, id: &[u8]) -> Found
     requires { ⌜ rows ≤ 64 ⌝ }
-    ensures { λ r. ⌜ r ≡ firstOf rows (hasId (now (ids .entry)) (now (id .entry))) ⌝ }
+    ensures { λ r. ⌜ r ≡ firstRow rows (hasId (now (ids .entry)) (now (id .entry))) ⌝ }
 {
     let mut p: usize = 0;
     while p < rows {

@@ -1,3 +1,3 @@
-pub mod Orders
+pub mod Directives
 pub mod Rows
 pub mod Runs

@@ -1,5 +1,5 @@
 -- What a function on lent maps does, of every card with its terms.
---     runs-by       the maps behind it are those of y
+--     runs-by       the maps after it are those of y
 --     runs-as       the command comes to the same as another
 --     terms-lent    what admission asks for
 --     listed        the channel that was found
@@ -22,9 +22,9 @@ use Rattle.card.specs.declared.Terms.{Terms}
 use Rattle.card.specs.Parts.{HasTerms}
 use Rattle.card.proofs.Parts.{channels-are, record-is}
 use Rattle.joins.specs.Joins.{AsLent, admitNumber}
-use Rattle.commands.specs.Orders.{Order, orderOf}
-use Rattle.commands.specs.Orders.Order.{ill, add, delete, deleteAll}
-use Rattle.commands.specs.Commands.{Ran, fails, succeeds, addNew, addRow, deleteFlow, obeyed, ranOf, ranWith, Runs}
+use Rattle.commands.specs.Directives.{Directive, directiveOf}
+use Rattle.commands.specs.Directives.Directive.{malformed, add, delete, deleteAll}
+use Rattle.commands.specs.Commands.{Ran, fails, succeeds, addNew, addRow, deleteFlow, carriedOut, ranOf, ranWith, Runs}
 
 module _ {ran : Card → Ran} {terms : Terms} {before after : Pool} where
   pub runs-by : (code : ℕ) {y : Pool} → after ≡ y → Whole y → ((card : Card) → HasTerms card (terms .at) terms → ranWith card y code ≡ ran (withPool card before))
@@ -37,7 +37,7 @@ module _ {ran : Card → Ran} {terms : Terms} {before after : Pool} where
   runs-as r f = record { each = λ card h. sym (f card h) ∙ r .each card h; whole = r .whole }
 
 module _ {card : Card} {terms : Terms} (h : HasTerms card (terms .at) terms) where
-  pub terms-lent : (pool : Pool) → AsLent (withPool card pool) (pool .owner) (pool .channel) (pool .charged) (terms .at) (terms .x .delegation)
+  pub terms-lent : (pool : Pool) → AsLent (withPool card pool) (pool .owner) (pool .channel) (pool .charged) (terms .at) (terms .port .delegation)
   terms-lent pool = record { owner = refl; channel = refl; charged = refl; delegation = ap (λ (x : Port). x .delegation) (record-is h) }
 
   pub listed : (channels : List ℕ) (f : Flow) {found x : Found} → found ≡ channelOf channels (terms .head .«channel_count») f → found ≡ x → channelOf channels (card .head .«channel_count») f ≡ x
@@ -64,9 +64,9 @@ module _ (channels : List ℕ) (card : Card) (p : ℕ) where
   unfolding deleteFlow
   kept-delete f n = kept-if (hasFlow channels (card .pool) p f) (succeeds (withPool card (endedFlow channels (card .pool) p f))) (fails card 0x66) refl (λ m. refl) n
 
-  pub failed-keeps : (o : Order) → (obeyed channels card p o .code ≡ 0 → ⊥) → obeyed channels card p o .card ≡ card
-  unfolding obeyed
-  failed-keeps (ill code) n = refl
+  pub failed-keeps : (o : Directive) → (carriedOut channels card p o .code ≡ 0 → ⊥) → carriedOut channels card p o .card ≡ card
+  unfolding carriedOut
+  failed-keeps (malformed code) n = refl
   failed-keeps (add f accounting) n = kept-add accounting (channelOf channels (card .head .«channel_count») f) n
   failed-keeps (delete f) n = kept-delete f n
   failed-keeps deleteAll n = absurd (n refl)
@@ -75,4 +75,4 @@ module _ (channels : List ℕ) (card : Card) (p : ℕ) where
 pub runs-kept : (channels : List ℕ) (card : Card) (p : ℕ) (c : List ℕ) (before after : Pool) {code : ℕ}
     → ranOf channels (withPool card before) p c ≡ ranWith card after code → (code ≡ 0 → ⊥) → after ≡ before
 runs-kept channels card p c before after e n =
-    sym (ap (λ (r : Ran). r .card .pool) e) ∙ ap (λ (x : Card). x .pool) (failed-keeps channels (withPool card before) p (orderOf c) (λ z. n (sym (ap (λ (r : Ran). r .code) e) ∙ z)))
+    sym (ap (λ (r : Ran). r .card .pool) e) ∙ ap (λ (x : Card). x .pool) (failed-keeps channels (withPool card before) p (directiveOf c) (λ z. n (sym (ap (λ (r : Ran). r .code) e) ∙ z)))

@@ -1,4 +1,4 @@
--- One command of a 144 on port p (01, "144"): the card behind it, and the result code, 0 for success. Assumes nothing: these are definitions.
+-- One command of a 144 on port p (01, "144"): the card after it, and the result code, 0 for success. Assumes nothing: these are definitions.
 use Prim.Native.Nat.{ℕ}
 use mathlib.Core.Path.{_≡_}
 use mathlib.Core.Bool.{cond}
@@ -14,10 +14,10 @@ use Rattle.card.specs.Cards.{Card, withPool}
 use Rattle.card.specs.declared.Terms.{Terms}
 use Rattle.card.specs.Parts.{HasTerms}
 use Rattle.joins.specs.Joins.{admitNumber}
-use Rattle.commands.specs.Orders.{Order, orderOf}
-use Rattle.commands.specs.Orders.Order.{ill, add, delete, deleteAll}
+use Rattle.commands.specs.Directives.{Directive, directiveOf}
+use Rattle.commands.specs.Directives.Directive.{malformed, add, delete, deleteAll}
 
--- the card behind a command, and its result code: 0 for success
+-- the card after a command, and its result code: 0 for success
 pub record Ran : Type 0 where
   pub card : Card
   pub code : ℕ
@@ -48,15 +48,15 @@ unfoldable pub deleteFlow : List ℕ → Card → ℕ → Flow → Ran
 deleteFlow channels card p f =
     cond (hasFlow channels (card .pool) p f) (succeeds (withPool card (endedFlow channels (card .pool) p f))) (fails card 0x66)
 
-unfoldable pub obeyed : List ℕ → Card → ℕ → Order → Ran
-obeyed channels card p (ill code) = fails card code
-obeyed channels card p (add f accounting) = addRow channels card p accounting (channelOf channels (card .head .«channel_count») f)
-obeyed channels card p (delete f) = deleteFlow channels card p f
-obeyed channels card p deleteAll = succeeds (withPool card (endedAll (card .pool) p))
+unfoldable pub carriedOut : List ℕ → Card → ℕ → Directive → Ran
+carriedOut channels card p (malformed code) = fails card code
+carriedOut channels card p (add f accounting) = addRow channels card p accounting (channelOf channels (card .head .«channel_count») f)
+carriedOut channels card p (delete f) = deleteFlow channels card p f
+carriedOut channels card p deleteAll = succeeds (withPool card (endedAll (card .pool) p))
 
 -- a Command with content c
 abbrev pub ranOf : List ℕ → Card → ℕ → List ℕ → Ran
-ranOf channels card p c = obeyed channels card p (orderOf c)
+ranOf channels card p c = carriedOut channels card p (directiveOf c)
 
 -- ---- the same on maps that are lent
 

@@ -12,8 +12,8 @@ ghost use lib.ListN.{length};
 ghost use Rattle.fields.specs.Fields.{commandIn};
 ghost use Rattle.channels.specs.Channels.{channelOf};
 ghost use Rattle.pool.specs.Pool.{poolOf, Whole};
-ghost use Rattle.commands.specs.Orders.{flowsAsked, flowContent, shapeOk, flowOrder};
-ghost use Rattle.commands.specs.Commands.{addRow, deleteFlow, obeyed, ranOf, Runs};
+ghost use Rattle.commands.specs.Directives.{flowsAsked, flowContent, shapeOk, flowDirective};
+ghost use Rattle.commands.specs.Commands.{addRow, deleteFlow, carriedOut, ranOf, Runs};
 
 // On the port at the terms' place; the answer is the result code: 0 for success.
 pub fn run_command(
@@ -90,7 +90,7 @@ fn run_flow(
     accounting: &mut [u8; 512],
 ) -> u16
     requires { ⌜ (terms .at < 256) × Whole (poolOf (now owner) (now channel) (now charged) (now accounting)) ⌝ }
-    ensures { λ r. ⌜ Runs (λ card. obeyed (now (channels .entry)) card (terms .at) (flowOrder (command .code) (command .accounting) (now (c .entry)))) terms (poolOf (now (owner .entry)) (now (channel .entry)) (now (charged .entry)) (now (accounting .entry))) (poolOf (now (owner .exit)) (now (channel .exit)) (now (charged .exit)) (now (accounting .exit))) r ⌝ }
+    ensures { λ r. ⌜ Runs (λ card. carriedOut (now (channels .entry)) card (terms .at) (flowDirective (command .code) (command .accounting) (now (c .entry)))) terms (poolOf (now (owner .entry)) (now (channel .entry)) (now (charged .entry)) (now (accounting .entry))) (poolOf (now (owner .exit)) (now (channel .exit)) (now (charged .exit)) (now (accounting .exit))) r ⌝ }
 {
     if !flow_octets::flow_formed(c) {
         return 0x55;
@@ -158,7 +158,7 @@ fn add_channel(
     ensures { λ r. ⌜ Runs (λ card. addRow (now (channels .entry)) card (terms .at) value (Found.At k)) terms (poolOf (now (owner .entry)) (now (channel .entry)) (now (charged .entry)) (now (accounting .entry))) (poolOf (now (owner .exit)) (now (channel .exit)) (now (charged .exit)) (now (accounting .exit))) r ⌝ }
 {
     let p = terms.at as u8;
-    let x = terms.x;
+    let x = terms.port;
     let cac = terms.head.add_cac;
     if pool::account_in(accounting, owner, channel, p, k, value) {
         return 0;

@@ -1,7 +1,7 @@
 -- The commands of a 144 on port p, in the ledger's terms.
---     commands-agree     the card behind them agrees with the ledger behind those that acted
---     Behind, succeeded  commands that succeed in the ledger's terms act
---     add-acts           and an Add that is wanted behind them acts exactly where it starts
+--     commands-agree     the card after them agrees with the ledger after those that acted
+--     After, succeeded   commands that succeed in the ledger's terms act
+--     add-acts           and an Add that is wanted after them acts exactly where it starts
 -- Assumes nothing.
 use Prim.Native.Nat.{ℕ, suc, _+_, _≤_, _<_}
 use mathlib.Core.Path.{_≡_, refl, sym, ap, subst, _∙_}
@@ -18,15 +18,15 @@ use Rattle.flows.specs.declared.Flow.{Flow}
 use Rattle.replies.specs.Replies.{successOf}
 use Rattle.card.specs.Cards.{Card}
 use Rattle.card.specs.Outcome.{Outcome, becomes, writes}
-use Rattle.commands.specs.Orders.{Order, orderOf}
-use Rattle.commands.specs.Orders.Order.{add}
-use Rattle.commands.specs.Commands.{obeyed, ranOf}
+use Rattle.commands.specs.Directives.{Directive, directiveOf}
+use Rattle.commands.specs.Directives.Directive.{add}
+use Rattle.commands.specs.Commands.{carriedOut, ranOf}
 use Rattle.control.specs.Control.{failureOf, allGood, commandsFrom}
 use Rattle.demand3.specs.Calls.{Tables}
 use Rattle.demand3.specs.Ledger.{Line, Ledger, write, holds, acts, actsAll}
 use Rattle.demand3.specs.Claim.{Starts, Succeeds, AllSucceed, Wanted}
 use Rattle.demand3.proofs.Agree.{Agree, write-same, again}
-use Rattle.demand3.proofs.Command.{acts-up, obeyed-agrees, obeyed-code}
+use Rattle.demand3.proofs.Command.{acts-up, carried-out-agrees, carried-out-code}
 use Rattle.demand3.proofs.Commands.{ran}
 
 good-card : (h : Header) (card : Card) → allGood h card .card ≡ card
@@ -62,12 +62,12 @@ module _ (t : Tables) (p : ℕ) (port : p < 64) (l : Ledger) where
   written-up card x s = ap (λ (y : Line). y .isUp) (write-same l p x) ∙ s .is-up
 
   -- one command that acts
-  stands-next : (card : Card) (x : Line) (o : Order) → Stands card x → obeyed (t .channels) card p o .code ≡ 0
-      → Stands (obeyed (t .channels) card p o .card) (acts t x o)
+  stands-next : (card : Card) (x : Line) (o : Directive) → Stands card x → carriedOut (t .channels) card p o .code ≡ 0
+      → Stands (carriedOut (t .channels) card p o .card) (acts t x o)
   stands-next card x o s e =
       record {
-        agrees = again t (obeyed (t .channels) card p o .card) l p x (λ y. acts t y o)
-            (obeyed-agrees t card (write l p x) (s .agrees) p port (written-up card x s) o e);
+        agrees = again t (carriedOut (t .channels) card p o .card) l p x (λ y. acts t y o)
+            (carried-out-agrees t card (write l p x) (s .agrees) p port (written-up card x s) o e);
         is-up = acts-up t x o ∙ s .is-up;
       }
 
@@ -77,8 +77,8 @@ module _ (t : Tables) (p : ℕ) (port : p < 64) (l : Ledger) where
   commands-agree h id card x seq [] a u = subst (λ (d : Card). Agree t d (write l p x)) (sym (good-card h card)) a
   commands-agree h id card x seq (c ∷ cs) a u =
       go (eqb (ranOf (t .channels) card p c .code) 0) refl
-      (λ e. let s = stands-next card x (orderOf c) (record { agrees = a; is-up = u }) e in
-      commands-agree h id (ranOf (t .channels) card p c .card) (acts t x (orderOf c)) (seq + 1) cs (s .agrees) (s .is-up))
+      (λ e. let s = stands-next card x (directiveOf c) (record { agrees = a; is-up = u }) e in
+      commands-agree h id (ranOf (t .channels) card p c .card) (acts t x (directiveOf c)) (seq + 1) cs (s .agrees) (s .is-up))
     where
       next : Outcome
       next = commandsFrom (t .channels) h id p (ranOf (t .channels) card p c .card) (seq + 1) cs
@@ -87,7 +87,7 @@ module _ (t : Tables) (p : ℕ) (port : p < 64) (l : Ledger) where
       many = ran (t .channels) p (ranOf (t .channels) card p c .card) cs
 
       go : (b : Bool) → eqb (ranOf (t .channels) card p c .code) 0 ≡ b
-          → (ranOf (t .channels) card p c .code ≡ 0 → Agree t (next .card) (write l p (actsAll t (acts t x (orderOf c)) (take many cs))))
+          → (ranOf (t .channels) card p c .code ≡ 0 → Agree t (next .card) (write l p (actsAll t (acts t x (directiveOf c)) (take many cs))))
           → Agree t (cond b next (writes card (failureOf h (ranOf (t .channels) card p c .code) id seq c)) .card)
           (write l p (actsAll t x (take (cond b (suc many) 0) (c ∷ cs))))
       go true e ih = ih (eqb-true (ranOf (t .channels) card p c .code) 0 e)
@@ -95,17 +95,17 @@ module _ (t : Tables) (p : ℕ) (port : p < 64) (l : Ledger) where
 
   -- ---- commands that succeed in the ledger's terms
   -- all of `before` act, and the next is met by the card `later`
-  record Behind (card : Card) (x : Line) (before : List (List ℕ)) : Type 0 where
+  record AfterCommands (card : Card) (x : Line) (before : List (List ℕ)) : Type 0 where
     pub later : Card
     pub stands : Stands later (actsAll t x before)
     pub many : (cs : List (List ℕ)) → ran (t .channels) p card (before ++ cs) ≡ length before + ran (t .channels) p later cs
 
-  succeeded : (card : Card) (x : Line) (before : List (List ℕ)) → Stands card x → AllSucceed t l p x before → Behind card x before
+  succeeded : (card : Card) (x : Line) (before : List (List ℕ)) → Stands card x → AllSucceed t l p x before → AfterCommands card x before
   unfolding AllSucceed actsAll
   succeeded card x [] s a = record { later = card; stands = s; many = λ cs. sym (zero-add (ran (t .channels) p card cs)) }
   succeeded card x (c ∷ cs) s a =
-      let e = obeyed-code t card (write l p x) (s .agrees) p port (written-up card x s) c .1 (a .0) in
-      let b = succeeded (ranOf (t .channels) card p c .card) (acts t x (orderOf c)) cs (stands-next card x (orderOf c) s e) (a .1) in
+      let e = carried-out-code t card (write l p x) (s .agrees) p port (written-up card x s) c .1 (a .0) in
+      let b = succeeded (ranOf (t .channels) card p c .card) (acts t x (directiveOf c)) cs (stands-next card x (directiveOf c) s e) (a .1) in
       record {
         later = b .later;
         stands = b .stands;
@@ -113,21 +113,21 @@ module _ (t : Tables) (p : ℕ) (port : p < 64) (l : Ledger) where
       }
 
   module _ (card : Card) (x : Line) (before : List (List ℕ)) (a : Agree t card (write l p x)) (u : x .isUp ≡ true) (succeed : AllSucceed t l p x before) where
-    behind-card : Behind card x before
-    behind-card = succeeded card x before (record { agrees = a; is-up = u }) succeed
+    after-card : AfterCommands card x before
+    after-card = succeeded card x before (record { agrees = a; is-up = u }) succeed
 
     pub before-act : (cs : List (List ℕ)) → length before ≤ ran (t .channels) p card (before ++ cs)
-    before-act cs = omega (arith, behind-card .many cs)
+    before-act cs = omega (arith, after-card .many cs)
 
-    -- and a wanted Add behind them acts exactly where it starts
-    module _ (here : List ℕ) (after : List (List ℕ)) (f : Flow) (accounting : ℕ) (is-add : orderOf here ≡ add f accounting)
+    -- and a wanted Add after them acts exactly where it starts
+    module _ (here : List ℕ) (after : List (List ℕ)) (f : Flow) (accounting : ℕ) (is-add : directiveOf here ≡ add f accounting)
         (wanted : Wanted t (write l p (actsAll t x before)) p f) where
-      add-code : (ranOf (t .channels) (behind-card .later) p here .code ≡ 0) ↔ Starts t (t .addCac) (write l p (actsAll t x before)) p f
+      add-code : (ranOf (t .channels) (after-card .later) p here .code ≡ 0) ↔ Starts t (t .addCac) (write l p (actsAll t x before)) p f
       unfolding Succeeds
       add-code =
           let y : Line = actsAll t x before in
-          let d : Card = behind-card .later in
-          let o = obeyed-code t d (write l p y) (behind-card .stands .agrees) p port (written-up d y (behind-card .stands)) here in (
+          let d : Card = after-card .later in
+          let o = carried-out-code t d (write l p y) (after-card .stands .agrees) p port (written-up d y (after-card .stands)) here in (
             λ e. ⊎-elim (λ (h : holds f (write l p y p .flows) ≡ true). absurd (false≢true (sym (wanted .idle) ∙ h))) (λ s. s)
                 (subst (Succeeds t (write l p y) p) is-add (o .0 e) .1),
             λ s. o .1 (subst (Succeeds t (write l p y) p) (sym is-add) (wanted .is-listed, inr s)),
@@ -135,6 +135,6 @@ module _ (t : Tables) (p : ℕ) (port : p < 64) (l : Ledger) where
 
       pub add-acts : (suc (length before) ≤ ran (t .channels) p card (before ++ (here ∷ after))) ↔ Starts t (t .addCac) (write l p (actsAll t x before)) p f
       add-acts = (
-        λ k. add-code .0 (acts-first (t .channels) p (behind-card .later) here after (omega (arith, behind-card .many (here ∷ after)))),
-        λ s. omega (arith, behind-card .many (here ∷ after), first-acts (t .channels) p (behind-card .later) here after (add-code .1 s)),
+        λ k. add-code .0 (acts-first (t .channels) p (after-card .later) here after (omega (arith, after-card .many (here ∷ after)))),
+        λ s. omega (arith, after-card .many (here ∷ after), first-acts (t .channels) p (after-card .later) here after (add-code .1 s)),
       )

@@ -13,7 +13,7 @@ use lib.ListN.{length}
 use lib.Dec.{eqb}
 use borrow.Author.Tests.{eqb-true, eqb-false, eq-eqb, ne-eqb}
 use Rattle.flows.specs.declared.Flow.{Flow}
-use Rattle.commands.specs.Orders.{Order}
+use Rattle.commands.specs.Directives.{Directive}
 use Rattle.pool.specs.Pool.{poolSum, extrasOf}
 use Rattle.pool.proofs.Whole.{Whole}
 use Rattle.pool.proofs.Law.{Owned}
@@ -98,7 +98,7 @@ module _ (t : Tables) {l l′ : Ledger} (e : (q : ℕ) → l q ≡ l′ q) where
   pub starts-as : (cac : Bool) (p : ℕ) (f : Flow) → Starts t cac l p f → Starts t cac l′ p f
   starts-as cac p f s = subst (λ (m : Ledger). Starts t cac m p f) (fun-ext e) s
 
-  pub succeeds-as : (p : ℕ) (o : Order) → Succeeds t l p o → Succeeds t l′ p o
+  pub succeeds-as : (p : ℕ) (o : Directive) → Succeeds t l p o → Succeeds t l′ p o
   succeeds-as p o s = subst (λ (m : Ledger). Succeeds t m p o) (fun-ext e) s
 
 -- a line written twice, the second time from what the first left there

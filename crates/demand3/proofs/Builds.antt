@@ -23,10 +23,10 @@ use Rattle.commands.specs.Commands.{ranOf}
 use Rattle.transfers.specs.Transfers.{transferGives}
 use Rattle.demand3.specs.Calls.{Tables, Call, ours, outcomeOf, startedOf, cardAfter, history, seen, byCall}
 use Rattle.demand3.specs.Calls.Call.{portUp, setDelegation, join, message}
-use Rattle.demand3.specs.Reads.{Names, NoneNames}
+use Rattle.demand3.specs.Reads.{IsAbout, NoneIsAbout}
 use Rattle.demand3.specs.Ledger.{Line, Ledger, opened, write, withDelegation, holds, begins, entry, entered, ledgerFrom}
 use Rattle.demand3.specs.Claim.{charges, Starts, Claim}
-use Rattle.demand3.specs.Builds.{calling, refusing, oneAnswer, dead, idle, firstRun, firstOnly, deaf, robbed, robber, inventing, forgetful, Worthless}
+use Rattle.demand3.specs.Builds.{calling, refusingJoins, oneAnswer, dead, changingNothing, firstRun, firstOnly, refusingMessages, robbed, robber, inventing, forgetful, Worthless}
 use Rattle.demand3.proofs.Agree.{Agree}
 use Rattle.demand3.proofs.Figures.{committed-is, has-port, reads-delegation}
 use Rattle.demand3.proofs.Steps.{port-set}
@@ -55,11 +55,11 @@ use Rattle.demand3.proofs.BuildsStart.{
 }
 use Rattle.demand3.proofs.BuildsMessage.{command, both-added, added-kind, added-port, added-commands, first-alone, second-reached, second-starts, other-asked, asked-kind, asked-port}
 
--- ---- behind port up: without admission control a join starts, and its number is 0
-refuses-every-join : Claim (calling refusing) → ⊥
-unfolding refusing byCall Starts write
+-- ---- after port up: without admission control a join starts, and its number is 0
+refuses-every-join : Claim (calling refusingJoins) → ⊥
+unfolding refusingJoins byCall Starts write
 refuses-every-join c =
-    let d = up-claim refusing false c (up-number false) in
+    let d = up-claim refusingJoins false c (up-number false) in
     let z = d .joins 0 first 4608 (first-wanted false) (first-white false) (omega arith) .0 .1 (inl (omega arith)) in
     omega arith
 
@@ -77,11 +77,11 @@ unfolding dead
 is-dead c = let z = c .holds-after (small true) 1 (taken true) [] .ups 0 .1 (omega arith) in omega arith
 
 -- the port reads up
-changes-nothing : Claim (calling idle) → ⊥
-unfolding idle upOf write isPort every
-changes-nothing c = false≢true (up-claim idle true c (up-number true) .is-up 0 (omega arith))
+changes-nothing : Claim (calling changingNothing) → ⊥
+unfolding changingNothing upOf write isPort every
+changes-nothing c = false≢true (up-claim changingNothing true c (up-number true) .is-up 0 (omega arith))
 
--- ---- behind port up, a 144 with two Adds: the second leaves its flow active
+-- ---- after port up, a 144 with two Adds: the second leaves its flow active
 only-first : firstOnly (small false) (upped false) (message both-added 4608) .card ≡ ranOf (small false .channels) (upped false) 0 (command 1) .card
 unfolding firstOnly byCall firstRun
 only-first = rw (added-kind, added-commands, added-port)
@@ -94,10 +94,10 @@ runs-command-1 c =
     false≢true (sym first-alone ∙ ap (λ (card : Card). activeAt (small false .channels) card 0 second) (sym only-first) ∙ active)
 
 -- and acts, with number 0
-refuses-every-message : Claim (calling deaf) → ⊥
-unfolding deaf byCall
+refuses-every-message : Claim (calling refusingMessages) → ⊥
+unfolding refusingMessages byCall
 refuses-every-message c =
-    let d = up-claim deaf false c (up-number false) in
+    let d = up-claim refusingMessages false c (up-number false) in
     let z = d .adds both-added 4608 0 second (command 1 ∷ []) [] second-reached (omega arith) .1 second-starts .0 in
     omega arith
 
@@ -105,7 +105,7 @@ refuses-every-message c =
 abbrev calls : List Call
 calls = portUp 0 ∷ setDelegation 0 1000 ∷ join 0 first 4608 ∷ []
 
--- the ledger behind a call of ours
+-- the ledger after a call of ours
 abbrev next : Card → Call → Ledger → Ledger
 next card x l = entered (small true) l (seen ours (small true) card x)
 
@@ -173,14 +173,14 @@ leaves-out-a-flow c =
     let one : length (lines 0 .flows) ≡ 1 = ap (λ (l : Ledger). length (l 0 .flows)) charged-is in
     omega (arith, length-drop 1 (ours .flows (small true) card 0))
 
--- ---- behind port up and 1000 kbit/s for port 0, a 146 for port 1: port 0 keeps its delegation
+-- ---- after port up and 1000 kbit/s for port 0, a 146 for port 1: port 0 keeps its delegation
 abbrev funded : List Call
 funded = portUp 0 ∷ setDelegation 0 1000 ∷ []
 
 abbrev asked : List Call
 asked = message other-asked 4608 ∷ []
 
--- the card that robs, behind them
+-- the card that robs, after them
 abbrev cut : Card
 cut = transferGives (small true .ids) (delegated .card) (headerIn other-asked) 0 (committedOf (small true .channels) (delegated .card .pool) 0) .card
 
@@ -200,12 +200,12 @@ cut-reads =
     ∙ committed-is (small true) (delegated .card) given given-agrees 0 (omega arith)
 
 robs-a-port : Claim (calling robber) → ⊥
-unfolding robber byCall cardAfter NoneNames Names write
+unfolding robber byCall cardAfter NoneIsAbout IsAbout write
 robs-a-port c =
     let start : Card = startedOf (small true) 1 .card in
-    let others : NoneNames (small true) asked 0 = (λ e. let z = at-eq (sym (asked-port true) ∙ e) in omega arith, tt) in
+    let others : NoneIsAbout (small true) asked 0 = (λ e. let z = at-eq (sym (asked-port true) ∙ e) in omega arith, tt) in
     let reads : (calls : List Call) → delegationOf (cardAfter (calling robber) (small true) start calls) 0
-        ≡ ledgerFrom (small true) opened (history (calling robber) (small true) start calls) 0 .delegation =
+    ≡ ledgerFrom (small true) opened (history (calling robber) (small true) start calls) 0 .delegation =
     λ calls. c .holds-after (small true) 1 (taken true) calls .delegation 0 (omega arith) in
     let same : delegationOf (cardAfter (calling robber) (small true) start (funded ++ asked)) 0 ≡ delegationOf (cardAfter (calling robber) (small true) start funded) 0 =
     reads (funded ++ asked) ∙ ap (λ (x : Line). x .delegation) (c .others-keep (small true) 1 (taken true) funded asked 0 others) ∙ sym (reads funded) in

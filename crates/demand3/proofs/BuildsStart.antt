@@ -2,7 +2,7 @@
 --     small, small-taken               the tables, with both switches as asked, are taken
 --     first, second                    the two flows
 --     started, started-is, tables      the card at start
---     raised, one-up, up-claim         the ledger behind port up, and demand 3 there
+--     raised, one-up, up-claim         the ledger after port up, and demand 3 there
 --     upped, up-number, up-agrees      our card there
 -- Assumes nothing.
 use Prim.Native.Nat.{ℕ}
@@ -17,7 +17,7 @@ use Rattle.octets.specs.Tests.{every}
 use Rattle.flows.specs.Words.{same, zeros}
 use Rattle.flows.specs.Flows.{sameFlow, knownFamily, width, inWidth, isGroup, goodGroup, goodSource, goodFlow}
 use Rattle.flows.specs.declared.Flow.{Flow}
-use Rattle.rows.specs.Rows.{firstFrom, firstOf, allOf, noneOf, rowsOk}
+use Rattle.rows.specs.Rows.{firstFrom, firstRow, allOf, noneOf, rowsOk}
 use Rattle.channels.specs.Channels.{channelAt, rateAt, channelOf}
 use Rattle.circuits.specs.Circuits.{idLength, idAt}
 use Rattle.lists.specs.declared.Decision.the-variants.{White}
@@ -73,11 +73,11 @@ others = refl
 
 module _ (cac : Bool) where
   pub both-listed : (listed (small cac) first ≡ true) × (listed (small cac) second ≡ true)
-  unfolding listed channelOf firstOf firstFrom channelAt sameFlow same every
+  unfolding listed channelOf firstRow firstFrom channelAt sameFlow same every
   both-listed = (refl, refl)
 
   pub first-rate : rateOf (small cac) first ≡ 1000
-  unfolding rateOf rateBy rateAt channelOf firstOf firstFrom channelAt sameFlow same every
+  unfolding rateOf rateBy rateAt channelOf firstRow firstFrom channelAt sameFlow same every
   first-rate = refl
 
   pub first-white : listDecision (small cac .entries) (small cac .entryCount) first ≡ White
@@ -98,7 +98,7 @@ module _ (cac : Bool) where
   pub tables : TablesTaken (small cac)
   tables = agree-fresh (small cac) 1 taken .0
 
--- ---- behind port up
+-- ---- after port up
 abbrev pub raised : Line
 raised = record { isUp = true; delegation = 0; flows = [] }
 

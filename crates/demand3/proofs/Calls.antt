@@ -1,5 +1,5 @@
 -- Demand 3 of our build: any list of calls from a start that is taken.
---     calls-agree                 card and ledger agree behind a list of calls
+--     calls-agree                 card and ledger agree after a list of calls
 --     lines-kept                  calls that name other ports leave a port's line
 --     none-line                   a number that is no port's has its line of the start
 --     demand3-at, claim           what demand 3 says, from that agreement
@@ -11,7 +11,7 @@ use Rattle.card.specs.Cards.{Card}
 use Rattle.demand3.specs.Calls.{Tables, Call, ours, outcomeOf, cardAfter, history, seen}
 use Rattle.demand3.specs.Ledger.{Ledger, entered, ledgerFrom, opened}
 use Rattle.demand3.specs.Claim.{Demand3, Claim}
-use Rattle.demand3.specs.Reads.{NoneNames}
+use Rattle.demand3.specs.Reads.{NoneIsAbout}
 use Rattle.demand3.proofs.Agree.{Agree, TablesTaken}
 use Rattle.demand3.proofs.Figures.{reads-up, reads-delegation, reads-active, reads-committed, reads-once, reads-listed, reads-bounded}
 use Rattle.demand3.proofs.Lists.{lists-times, lists-count, lists-order}
@@ -27,15 +27,15 @@ module _ (t : Tables) (taken : TablesTaken t) where
   calls-agree [] card l a = a
   calls-agree (x ∷ xs) card l a = calls-agree xs (outcomeOf t card x .card) (entered t l (seen ours t card x)) (call-step t taken card l a x)
 
-  -- calls that name other ports leave port p's line, behind any list of calls
+  -- calls that name other ports leave port p's line, after any list of calls
   module _ (p : ℕ) where
-    none-enter : (ys : List Call) (card : Card) (l : Ledger) → Agree t card l → NoneNames t ys p → ledgerFrom t l (history ours t card ys) p ≡ l p
-    unfolding history ledgerFrom NoneNames
+    none-enter : (ys : List Call) (card : Card) (l : Ledger) → Agree t card l → NoneIsAbout t ys p → ledgerFrom t l (history ours t card ys) p ≡ l p
+    unfolding history ledgerFrom NoneIsAbout
     none-enter [] card l a n = refl
     none-enter (y ∷ ys) card l a n =
         none-enter ys (outcomeOf t card y .card) (entered t l (seen ours t card y)) (call-step t taken card l a y) (n .1) ∙ entered-other t taken card l a y p (n .0)
 
-    pub lines-kept : (xs ys : List Call) (card : Card) (l : Ledger) → Agree t card l → NoneNames t ys p
+    pub lines-kept : (xs ys : List Call) (card : Card) (l : Ledger) → Agree t card l → NoneIsAbout t ys p
         → ledgerFrom t l (history ours t card (xs ++ ys)) p ≡ ledgerFrom t l (history ours t card xs) p
     unfolding history ledgerFrom
     lines-kept [] ys card l a n = none-enter ys card l a n
@@ -65,7 +65,7 @@ module _ (t : Tables) (taken : TablesTaken t) where
         bounded = reads-bounded t card l a taken;
         ups = ups-exactly t card l a taken;
         sets = λ p amount h. sets-exactly t card l a taken p h amount;
-        joins = λ p f room w white large. join-starts t card l a p f room taken w white large;
+        joins = λ p f space w white large. join-starts t card l a p f space taken w white large;
         adds = adds t taken card l a;
         last-add = last-add t taken card l a;
       }

@@ -1,4 +1,4 @@
--- What closes a port's request: behind set delegation, port down and a successful 146 no Bandwidth Transfer for the port is taken, until
+-- What closes a port's request: after set delegation, port down and a successful 146 no Bandwidth Transfer for the port is taken, until
 -- the host asks for it. Assumes nothing.
 use Prim.Native.Nat.{ℕ, _<_}
 use mathlib.Core.Path.{_≡_, sym, ap, subst, _∙_}
@@ -96,9 +96,9 @@ module _ (t : Tables) (taken : TablesTaken t) (card : Card) (l : Ledger) (a : Ag
     came-closes o (queried reply q e) k r h = absurd (omega arith)
     came-closes o (answered q e c s) k r h = absurd (omega arith)
 
-    pub reduction-none : (room : ℕ) → kindIn (outcomeOf t card (message m room) .reply) ≡ 147 → resultIn (outcomeOf t card (message m room) .reply) ≡ 3
-        → NoneUntilAsked t (outcomeOf t card (message m room) .card) p
+    pub reduction-none : (space : ℕ) → kindIn (outcomeOf t card (message m space) .reply) ≡ 147 → resultIn (outcomeOf t card (message m space) .reply) ≡ 3
+        → NoneUntilAsked t (outcomeOf t card (message m space) .card) p
     unfolding outcomeOf
-    reduction-none room k r =
-        closed-none t taken _ _ (call-step t taken card l a (message m room)) p
-        (came-closes (receivedOf (t .ids) (t .channels) card m room) (came (t .ids) (t .channels) card m room) k r)
+    reduction-none space k r =
+        closed-none t taken _ _ (call-step t taken card l a (message m space)) p
+        (came-closes (receivedOf (t .ids) (t .channels) card m space) (came (t .ids) (t .channels) card m space) k r)

@@ -1,6 +1,6 @@
 -- One command of a 144 on an up port, on a card that agrees with a ledger.
---     obeyed-agrees        a command that succeeds acts as the ledger has it
---     obeyed-succeeds      it succeeds exactly where the ledger says so; `obeyed-code` for what `orderOf` reads
+--     carried-out-agrees   a command that succeeds acts as the ledger has it
+--     carried-out-succeeds  exactly where the ledger says so; `carried-out-code` for what `directiveOf` reads
 --     acts-keep, all-keep  commands change a line's flows alone; acts-up, all-up: none brings a port down
 -- Assumes nothing.
 use Prim.Native.Nat.{ℕ, _<_}
@@ -21,9 +21,9 @@ use Rattle.channels.specs.Channels.{channelOf}
 use Rattle.pool.specs.Pool.{isActive, hasFlow, began, endedFlow, accounted}
 use Rattle.card.specs.Cards.{Card, withPool}
 use Rattle.joins.specs.Joins.{admitNumber}
-use Rattle.commands.specs.Commands.{Ran, fails, succeeds, addNew, addRow, deleteFlow, obeyed}
-use Rattle.commands.specs.Orders.{Order, shapeOk, flowContent, flowOrder, orderOf}
-use Rattle.commands.specs.Orders.Order.{ill, add, delete, deleteAll}
+use Rattle.commands.specs.Commands.{Ran, fails, succeeds, addNew, addRow, deleteFlow, carriedOut}
+use Rattle.commands.specs.Directives.{Directive, shapeOk, flowContent, flowDirective, directiveOf}
+use Rattle.commands.specs.Directives.Directive.{malformed, add, delete, deleteAll}
 use Rattle.demand3.specs.Calls.{Tables}
 use Rattle.demand3.specs.Ledger.{Held, Line, Ledger, write, holds, without, withFlows, begins, acts, actsAll}
 use Rattle.demand3.specs.Reads.{listed}
@@ -34,33 +34,33 @@ use Rattle.demand3.proofs.Figures.{active-is, has-is}
 use Rattle.demand3.proofs.Admit.{admits, admits-step, flow-ends, all-end, accounted-step}
 
 -- ---- a command that is not well-formed has a result code of its own
-abbrev pub Coded : Order → Type 0
-Coded (ill code) = code ≡ 0 → ⊥
+abbrev pub Coded : Directive → Type 0
+Coded (malformed code) = code ≡ 0 → ⊥
 Coded (add f v) = Unit {0}
 Coded (delete f) = Unit {0}
 Coded deleteAll = Unit {0}
 
-coded-by : (b : Bool) (x y : Order) → Coded x → Coded y → Coded (cond b x y)
+coded-by : (b : Bool) (x y : Directive) → Coded x → Coded y → Coded (cond b x y)
 coded-by true x y h g = h
 coded-by false x y h g = g
 
-pub order-coded : (c : List ℕ) → Coded (orderOf c)
-unfolding orderOf flowOrder
-order-coded c =
-    coded-by (shapeOk c) _ (ill 0x64)
+pub directive-coded : (c : List ℕ) → Coded (directiveOf c)
+unfolding directiveOf flowDirective
+directive-coded c =
+    coded-by (shapeOk c) _ (malformed 0x64)
     (coded-by (eqb (commandIn c .code) 3) deleteAll _ tt
-    (coded-by (flowFormed (flowContent c)) _ (ill 0x55)
-    (coded-by (goodFlow (flowNamed (flowContent c))) _ (ill 0x65)
+    (coded-by (flowFormed (flowContent c)) _ (malformed 0x55)
+    (coded-by (goodFlow (flowNamed (flowContent c))) _ (malformed 0x65)
     (coded-by (eqb (commandIn c .code) 1) (add (flowNamed (flowContent c)) (commandIn c .accounting)) (delete (flowNamed (flowContent c))) tt tt)
     (λ e. omega arith))
     (λ e. omega arith)))
     (λ e. omega arith)
 
--- ---- commands change a line's flows alone: what reads no flows reads the same behind them
+-- ---- commands change a line's flows alone: what reads no flows reads the same after them
 module _ (t : Tables) {A : Type 0} (read : Line → A) (same : (x : Line) (hs : List Held) → read (withFlows x hs) ≡ read x) where
-  pub acts-keep : (x : Line) (o : Order) → read (acts t x o) ≡ read x
+  pub acts-keep : (x : Line) (o : Directive) → read (acts t x o) ≡ read x
   unfolding acts
-  acts-keep x (ill code) = refl
+  acts-keep x (malformed code) = refl
   acts-keep x (add f v) = go (holds f (x .flows))
     where
       go : (b : Bool) → read (cond b x (begins x f (t .addCac))) ≡ read x
@@ -72,11 +72,11 @@ module _ (t : Tables) {A : Type 0} (read : Line → A) (same : (x : Line) (hs : 
   pub all-keep : (x : Line) (cs : List (List ℕ)) → read (actsAll t x cs) ≡ read x
   unfolding actsAll
   all-keep x [] = refl
-  all-keep x (c ∷ cs) = all-keep (acts t x (orderOf c)) cs ∙ acts-keep x (orderOf c)
+  all-keep x (c ∷ cs) = all-keep (acts t x (directiveOf c)) cs ∙ acts-keep x (directiveOf c)
 
 -- so no command brings a port down
 module _ (t : Tables) where
-  pub acts-up : (x : Line) (o : Order) → acts t x o .isUp ≡ x .isUp
+  pub acts-up : (x : Line) (o : Directive) → acts t x o .isUp ≡ x .isUp
   acts-up = acts-keep t (λ x. x .isUp) (λ x hs. refl)
 
   pub all-up : (x : Line) (cs : List (List ℕ)) → actsAll t x cs .isUp ≡ x .isUp
@@ -88,8 +88,8 @@ module _ (t : Tables) (card : Card) (l : Ledger) (a : Agree t card l) (p : ℕ) 
 
   -- ---- Add
   module _ (f : Flow) (v : ℕ) where
-    add-found : obeyed (t .channels) card p (add f v) ≡ addRow (t .channels) card p v (found t f)
-    unfolding obeyed
+    add-found : carriedOut (t .channels) card p (add f v) ≡ addRow (t .channels) card p v (found t f)
+    unfolding carriedOut
     add-found = ap (λ (n : ℕ). addRow (t .channels) card p v (channelOf (t .channels) n f)) (a .channels)
 
     abbrev started : ℕ → Card
@@ -172,21 +172,21 @@ module _ (t : Tables) (card : Card) (l : Ledger) (a : Agree t card l) (p : ℕ) 
         go false h = (λ z. absurd (omega arith), λ s. absurd (false≢true (h ∙ s)))
 
   -- ---- any command
-  pub obeyed-agrees : (o : Order) → obeyed (t .channels) card p o .code ≡ 0 → Agree t (obeyed (t .channels) card p o .card) (write l p (acts t (l p) o))
-  unfolding obeyed acts
-  obeyed-agrees (ill code) z = kept
-  obeyed-agrees (add f v) z =
+  pub carried-out-agrees : (o : Directive) → carriedOut (t .channels) card p o .code ≡ 0 → Agree t (carriedOut (t .channels) card p o .card) (write l p (acts t (l p) o))
+  unfolding carriedOut acts
+  carried-out-agrees (malformed code) z = kept
+  carried-out-agrees (add f v) z =
       subst (λ (r : Ran). r .code ≡ 0 → Agree t (r .card) (write l p (acts t (l p) (add f v)))) (sym (add-found f v)) (add-agrees f v (found t f) refl) z
-  obeyed-agrees (delete f) z = delete-agrees f z
-  obeyed-agrees deleteAll z = all-end t card l a p port
+  carried-out-agrees (delete f) z = delete-agrees f z
+  carried-out-agrees deleteAll z = all-end t card l a p port
 
-  pub obeyed-succeeds : (o : Order) → Coded o → (obeyed (t .channels) card p o .code ≡ 0) ↔ Succeeds t l p o
-  unfolding obeyed Succeeds
-  obeyed-succeeds (ill code) c = (λ z. c z, λ s. absurd s)
-  obeyed-succeeds (add f v) c = subst (λ (r : Ran). (r .code ≡ 0) ↔ Succeeds t l p (add f v)) (sym (add-found f v)) (add-succeeds f v (found t f) refl)
-  obeyed-succeeds (delete f) c = delete-succeeds f
-  obeyed-succeeds deleteAll c = (λ z. tt, λ s. refl)
+  pub carried-out-succeeds : (o : Directive) → Coded o → (carriedOut (t .channels) card p o .code ≡ 0) ↔ Succeeds t l p o
+  unfolding carriedOut Succeeds
+  carried-out-succeeds (malformed code) c = (λ z. c z, λ s. absurd s)
+  carried-out-succeeds (add f v) c = subst (λ (r : Ran). (r .code ≡ 0) ↔ Succeeds t l p (add f v)) (sym (add-found f v)) (add-succeeds f v (found t f) refl)
+  carried-out-succeeds (delete f) c = delete-succeeds f
+  carried-out-succeeds deleteAll c = (λ z. tt, λ s. refl)
 
   -- and what is read off a Command's content
-  pub obeyed-code : (c : List ℕ) → (obeyed (t .channels) card p (orderOf c) .code ≡ 0) ↔ Succeeds t l p (orderOf c)
-  obeyed-code c = obeyed-succeeds (orderOf c) (order-coded c)
+  pub carried-out-code : (c : List ℕ) → (carriedOut (t .channels) card p (directiveOf c) .code ≡ 0) ↔ Succeeds t l p (directiveOf c)
+  carried-out-code c = carried-out-succeeds (directiveOf c) (directive-coded c)

@@ -30,14 +30,14 @@ use Rattle.card.specs.Outcome.{Outcome, becomes, writes}
 use Rattle.card.specs.Start.{Started, freshCard, firstOk, startOf}
 use Rattle.joins.specs.Joins.{admitNumber, greyOf}
 use Rattle.joins.specs.Asks.{askedOf}
-use Rattle.commands.specs.Orders.{Order, orderOf}
-use Rattle.commands.specs.Orders.Order.{ill, add, delete, deleteAll}
-use Rattle.commands.specs.Commands.{Ran, addNew, addRow, deleteFlow, obeyed, ranOf}
+use Rattle.commands.specs.Directives.{Directive, directiveOf}
+use Rattle.commands.specs.Directives.Directive.{malformed, add, delete, deleteAll}
+use Rattle.commands.specs.Commands.{Ran, addNew, addRow, deleteFlow, carriedOut, ranOf}
 use Rattle.control.specs.Control.{failureOf, allGood, commandsFrom, commandsIn, controlled}
 use Rattle.transfers.specs.Transfers.{transferGives}
 use Rattle.demand3.specs.Calls.{Tables, Call, ours, outcomeOf, startedOf, cardAfter}
 use Rattle.demand3.specs.Claim.{takes}
-use Rattle.demand3.proofs.Ways.{Way, stays, replies, rises, falls, sets, closes, reduces, asks, beside, commanded, grey}
+use Rattle.demand3.proofs.Ways.{Way, stays, replies, rises, falls, sets, closes, reduces, asks, keepsPorts, commanded, grey}
 use Rattle.demand3.proofs.Each.{call-way}
 
 -- ---- commands keep what does not read the pool
@@ -58,9 +58,9 @@ module _ {A : Type 0} (read : Card → A) (same : (card : Card) (pool : Pool) �
     unfolding deleteFlow
     delete-keeps f = ran-by card (hasFlow channels (card .pool) p f) _ _ (same card _) refl
 
-    order-keeps : (o : Order) → read (obeyed channels card p o .card) ≡ read card
-    unfolding obeyed
-    order-keeps (ill code) = refl
+    order-keeps : (o : Directive) → read (carriedOut channels card p o .card) ≡ read card
+    unfolding carriedOut
+    order-keeps (malformed code) = refl
     order-keeps (add f v) = add-keeps v (channelOf channels (card .head .«channel_count») f)
     order-keeps (delete f) = delete-keeps f
     order-keeps deleteAll = same card _
@@ -73,7 +73,7 @@ module _ {A : Type 0} (read : Card → A) (same : (card : Card) (pool : Pool) �
       go true = refl
       go false = refl
   commands-keep h id card seq (c ∷ cs) =
-      go (eqb (ranOf channels card p c .code) 0) (commands-keep h id (ranOf channels card p c .card) (seq + 1) cs ∙ order-keeps card (orderOf c))
+      go (eqb (ranOf channels card p c .code) 0) (commands-keep h id (ranOf channels card p c .card) (seq + 1) cs ∙ order-keeps card (directiveOf c))
     where
       next : Outcome
       next = commandsFrom channels h id p (ranOf channels card p c .card) (seq + 1) cs
@@ -97,10 +97,10 @@ module _ (t : Tables) (card : Card) (x : Call) where
   way-counter o (sets p amount) = inl refl
   way-counter o (closes p) = inl refl
   way-counter o (reduces h p amount) = inl refl
-  way-counter o (asks p required preferred room e h u) = inr refl
-  way-counter o (beside card′ e n) = inl n
+  way-counter o (asks p required preferred space e h u) = inr refl
+  way-counter o (keepsPorts card′ e n) = inl n
   way-counter o (commanded h p s) = inl (commands-keep (λ c. c .head .counter) (λ c pool. refl) (t .channels) p h (idAt (t .ids) p) card 1 (commandsIn s))
-  way-counter o (grey p f room e) = inr refl
+  way-counter o (grey p f space e) = inr refl
 
   pub call-counter : Counted (outcomeOf t card x .card)
   call-counter = way-counter (outcomeOf t card x) (call-way t card x)

@@ -31,13 +31,13 @@ use Rattle.demand3.proofs.Figures.{committed-is}
 use Rattle.demand3.proofs.Replies.{kind-none, kind-amount, amount-back, port-back}
 use Rattle.demand3.proofs.Entries.{entry-given, entry-taken, entry-kept}
 
--- the ledger behind an answer to m
-unfoldable pub ledgerBehind : Tables → Ledger → List ℕ → Outcome → Ledger
-ledgerBehind t l m o = cond (eqb (o .number) 0) (messageEntry t l m (o .reply)) l
+-- the ledger after an answer to m
+unfoldable pub ledgerAfterAnswer : Tables → Ledger → List ℕ → Outcome → Ledger
+ledgerAfterAnswer t l m o = cond (eqb (o .number) 0) (messageEntry t l m (o .reply)) l
 
 -- an answer to m whose card agrees with it
 abbrev pub Agreed : Tables → Ledger → List ℕ → Outcome → Type 0
-Agreed t l m o = Agree t (o .card) (ledgerBehind t l m o)
+Agreed t l m o = Agree t (o .card) (ledgerAfterAnswer t l m o)
 
 agreed-by : (t : Tables) (l : Ledger) (m : List ℕ) (b : Bool) (x y : Outcome) → (b ≡ true → Agreed t l m x) → (b ≡ false → Agreed t l m y) → Agreed t l m (cond b x y)
 agreed-by t l m true x y f g = f refl
@@ -63,7 +63,7 @@ module _ (t : Tables) (card : Card) (l : Ledger) (a : Agree t card l) (p : ℕ) 
     -- a Bandwidth Transfer that carries the delegation of a card
     carries : (result code amount : ℕ) (next : Card) → Agree t next (write l p (withDelegation (l p) amount))
         → Agreed t l m (writes next (amountReply h 147 result code (idAt (t .ids) p) amount))
-    unfolding ledgerBehind writeAt
+    unfolding ledgerAfterAnswer writeAt
     carries result code amount next b =
         let reply : List ℕ = amountReply h 147 result code (idAt (t .ids) p) amount in
         subst (Agree t next)
@@ -105,17 +105,17 @@ module _ (t : Tables) (card : Card) (l : Ledger) (a : Agree t card l) (p : ℕ) 
         go false e h = absurd (n (eqb-true (resultIn m) 4 h))
 
     refuses : Agreed t l m (keeps card 16)
-    unfolding ledgerBehind
+    unfolding ledgerAfterAnswer
     refuses = a
 
     closes : resultIn m ≡ 4 → Agreed t l m (becomes (withPort card p (closed (portAt card p))))
-    unfolding ledgerBehind
+    unfolding ledgerAfterAnswer
     closes r =
         subst (Agree t (withPort card p (closed (portAt card p)))) (sym (entry-kept t l m [] silent (rw (kind, r)) (rw kind))) closed-agrees
 
     sets : (resultIn m ≡ 4 → ⊥) → answers (portAt card p) (headerIn m .transaction) ≡ true → within (portAt card p) (amountIn m) ≡ true
         → Agreed t l m (becomes (withPort card p (delegated (portAt card p) (amountIn m))))
-    unfolding ledgerBehind writeAt answers within
+    unfolding ledgerAfterAnswer writeAt answers within
     sets n s w =
         let asking = each (portAt card p .asking ∷ eqb (portAt card p .transaction) (headerIn m .transaction) ∷ []) s .0 in
         let least = leb-true (portAt card p .required) (amountIn m) (each (leb (portAt card p .required) (amountIn m) ∷ leb (amountIn m) (portAt card p .preferred) ∷ []) w .0) in

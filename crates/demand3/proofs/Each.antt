@@ -1,6 +1,6 @@
 -- What is shown of each call, in one place: a call more is a line more in `each-call`.
 --     call-way             what it comes to on any card
---     call-step            card and ledger agree behind it
+--     call-step            card and ledger agree after it
 --     entered-other        it leaves the line of every port that it does not name
 --     entered-delegation   and every delegation, unless it is set delegation, a 146, or a 147 with Result 3
 --     entered-none         and the line of a number that is no port's
@@ -17,7 +17,7 @@ use Rattle.card.specs.Cards.{Card}
 use Rattle.demand3.specs.Calls.{Tables, Call, ours, outcomeOf, seen, byCall}
 use Rattle.demand3.specs.Calls.Call.{portUp, portDown, setDelegation, join, leave, ask, message}
 use Rattle.demand3.specs.Ledger.{Ledger, entry, entered}
-use Rattle.demand3.specs.Reads.{Names}
+use Rattle.demand3.specs.Reads.{IsAbout}
 use Rattle.demand3.proofs.Agree.{Agree, TablesTaken}
 use Rattle.demand3.proofs.Host.{up-step, down-step, delegation-step, leave-step, ask-step}
 use Rattle.demand3.proofs.Join.{join-step}
@@ -27,7 +27,7 @@ use Rattle.demand3.proofs.Transfers.{at-eq}
 use Rattle.demand3.proofs.Taken.{Known, up-known, down-known, delegation-known, join-known, leave-known, ask-known, named-known}
 use Rattle.demand3.proofs.Frames.{NotSet, NotMoved, Frame, kept-frame, line-frame, set-frame, message-frame}
 
--- card and ledger agree behind a call
+-- card and ledger agree after a call
 abbrev pub Keeps : Tables → Card → Ledger → Call → Type 0
 Keeps t card l x = Agree t (outcomeOf t card x .card) (entered t l (seen ours t card x))
 
@@ -35,7 +35,7 @@ pub record Each (t : Tables) (x : Call) : Type 0 where
   pub way : (card : Card) → Way t card x (outcomeOf t card x)
   pub step : TablesTaken t → (card : Card) (l : Ledger) → Agree t card l → Keeps t card l x
   pub frame : TablesTaken t → (card : Card) (l : Ledger) → Agree t card l → (p : ℕ) → Frame t l x (outcomeOf t card x .reply) p
-  pub known : (card : Card) → card .head .«port_count» ≡ t .ports → (p : ℕ) → Names t x p → Known t card x p
+  pub known : (card : Card) → card .head .«port_count» ≡ t .ports → (p : ℕ) → IsAbout t x p → Known t card x p
 
 module _ (t : Tables) where
   -- a call about q is one about p where these are the same
@@ -43,7 +43,7 @@ module _ (t : Tables) where
   about card x k e z = subst (λ (i : ℕ). i < t .ports) e (k z)
 
   each-call : (x : Call) → Each t x
-  unfolding entry Names byCall
+  unfolding entry IsAbout byCall
   each-call (portUp q) =
       record {
         way = λ c. up-way t c _ q;
@@ -65,12 +65,12 @@ module _ (t : Tables) where
         frame = λ k c l a p. set-frame t l _ _ p q (ap At) _ refl amount refl;
         known = λ c e p n. about c (setDelegation q amount) (delegation-known t c e q amount) (at-eq n);
       }
-  each-call (join q f room) =
+  each-call (join q f space) =
       record {
-        way = λ c. join-way t c _ q f room refl;
-        step = λ k c l a. join-step t c l a q f room;
+        way = λ c. join-way t c _ q f space refl;
+        step = λ k c l a. join-step t c l a q f space;
         frame = λ k c l a p. line-frame t l _ _ p q (λ e. e) _ refl refl;
-        known = λ c e p n. about c (join q f room) (join-known t c e q f room) n;
+        known = λ c e p n. about c (join q f space) (join-known t c e q f space) n;
       }
   each-call (leave q f) =
       record {
@@ -79,18 +79,18 @@ module _ (t : Tables) where
         frame = λ k c l a p. line-frame t l _ _ p q (ap At) _ refl refl;
         known = λ c e p n. about c (leave q f) (leave-known t c e q f) (at-eq n);
       }
-  each-call (ask q m n room) =
+  each-call (ask q m n space) =
       record {
-        way = λ c. ask-way t c _ q m n room refl;
-        step = λ k c l a. ask-step t c l a q m n room;
+        way = λ c. ask-way t c _ q m n space refl;
+        step = λ k c l a. ask-step t c l a q m n space;
         frame = λ k c l a p. kept-frame t l _ _ p refl;
-        known = λ c e p s. about c (ask q m n room) (ask-known t c e q m n room) s;
+        known = λ c e p s. about c (ask q m n space) (ask-known t c e q m n space) s;
       }
-  each-call (message m room) =
+  each-call (message m space) =
       record {
-        way = λ c. message-way t c _ m room;
-        step = λ k c l a. message-step t c l a m k room;
-        frame = λ k c l a p. message-frame t k p c l a m room;
+        way = λ c. message-way t c _ m space;
+        step = λ k c l a. message-step t c l a m k space;
+        frame = λ k c l a p. message-frame t k p c l a m space;
         known = λ c e p n z. named-known t m p n;
       }
 
@@ -106,7 +106,7 @@ module _ (t : Tables) where
       frame = each-call x .frame taken card l a p
 
       -- only number 0 changes the ledger
-      pub entered-other : (Names t x p → ⊥) → entered t l (seen ours t card x) p ≡ l p
+      pub entered-other : (IsAbout t x p → ⊥) → entered t l (seen ours t card x) p ≡ l p
       unfolding entered
       entered-other n = go (eqb (outcomeOf t card x .number) 0)
         where

@@ -18,7 +18,7 @@ use Rattle.rows.specs.declared.Found.{Found}
 use Rattle.rows.specs.declared.Found.the-variants.{At, Nothing}
 use Rattle.channels.specs.Channels.{isRow, channelOf}
 use Rattle.sums.proofs.Sums.{sumTo-ext}
-use Rattle.pool.specs.Pool.{isActive, hasFlow, countOf, extrasOf, committedOf}
+use Rattle.pool.specs.Pool.{isActive, hasFlow, activeCount, extrasOf, committedOf}
 use Rattle.card.specs.Cards.{Card, isPort, hasPort, portAt}
 use Rattle.card.specs.Figures.{upOf, delegationOf, committedAt}
 use Rattle.listing.specs.Listing.{activeRow, activeAt}
@@ -40,7 +40,7 @@ module _ (t : Tables) (card : Card) (l : Ledger) (a : Agree t card l) where
         ap (ltb 0) (a .at p port .flows (selWeight (isRow (t .channels) f)))
         ∙ holds-sum t f (isRow (t .channels) f) (row-named t f) (l p .flows) (a .at p port .rows)
 
-    pub count-is : countOf (card .pool) p ≡ length (l p .flows)
+    pub count-is : activeCount (card .pool) p ≡ length (l p .flows)
     count-is = a .at p port .flows (λ k c. 1) ∙ length-sum t (l p .flows)
 
     pub committed-is : committedOf (t .channels) (card .pool) p ≡ charges t (l p)
@@ -57,7 +57,7 @@ module _ (t : Tables) (card : Card) (l : Ledger) (a : Agree t card l) where
 
   pub extras-is : extrasOf (card .pool) ≡ allExtras l
   unfolding allExtras
-  extras-is = sumTo-ext (λ q. countOf (card .pool) q - 4) (λ q. length (l q .flows) - 4) 64 (λ q h. ap (λ (n : ℕ). n - 4) (count-is q h))
+  extras-is = sumTo-ext (λ q. activeCount (card .pool) q - 4) (λ q. length (l q .flows) - 4) 64 (λ q h. ap (λ (n : ℕ). n - 4) (count-is q h))
 
   -- ---- what a host reads
   module _ (taken : TablesTaken t) (p : ℕ) (port : p < t .ports) where

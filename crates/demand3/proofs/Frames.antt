@@ -17,7 +17,7 @@ use Rattle.control.specs.Control.{commandsIn}
 use Rattle.card.specs.Cards.{Card}
 use Rattle.demand3.specs.Calls.{Tables, Call, outcomeOf, byCall}
 use Rattle.demand3.specs.Calls.Call.{setDelegation, message}
-use Rattle.demand3.specs.Reads.{kindIn, resultIn, portIn, amountIn, Names}
+use Rattle.demand3.specs.Reads.{kindIn, resultIn, portIn, amountIn, IsAbout}
 use Rattle.demand3.specs.Ledger.{Line, Ledger, write, withDelegation, actedIn, actsAll, writeAt, messageEntry, entry}
 use Rattle.demand3.specs.Corollaries.{Moves}
 use Rattle.demand3.proofs.Agree.{Agree, TablesTaken, same-or-not, write-same, write-other}
@@ -49,10 +49,10 @@ abbrev pub NotSet : Call → ℕ → Type 0
 NotSet x p = (amount : ℕ) → x ≡ setDelegation p amount → ⊥
 
 abbrev pub NotMoved : Call → Type 0
-NotMoved x = (m : List ℕ) (room : ℕ) → x ≡ message m room → Moves m → ⊥
+NotMoved x = (m : List ℕ) (space : ℕ) → x ≡ message m space → Moves m → ⊥
 
 pub record Frame (t : Tables) (l : Ledger) (x : Call) (reply : List ℕ) (p : ℕ) : Type 0 where
-  pub other : (Names t x p → ⊥) → entry t l x reply p ≡ l p
+  pub other : (IsAbout t x p → ⊥) → entry t l x reply p ≡ l p
   pub delegation : NotSet x p → NotMoved x → entry t l x reply p .delegation ≡ l p .delegation
 
 module _ (t : Tables) (l : Ledger) (x : Call) (reply : List ℕ) (p : ℕ) where
@@ -60,8 +60,8 @@ module _ (t : Tables) (l : Ledger) (x : Call) (reply : List ℕ) (p : ℕ) where
   kept-frame e = record { other = λ n. ap (λ (m : Ledger). m p) e; delegation = λ s m. ap (λ (m : Ledger). m p .delegation) e }
 
   -- the call is about port q
-  module _ (q : ℕ) (names : q ≡ p → Names t x p) (y : Line) (e : entry t l x reply ≡ write l q y) where
-    another : (Names t x p → ⊥) → entry t l x reply p ≡ l p
+  module _ (q : ℕ) (names : q ≡ p → IsAbout t x p) (y : Line) (e : entry t l x reply ≡ write l q y) where
+    another : (IsAbout t x p → ⊥) → entry t l x reply p ≡ l p
     another n = ap (λ (m : Ledger). m p) e ∙ write-other l q y p (λ s. n (names (sym s)))
 
     pub line-frame : y .delegation ≡ l q .delegation → Frame t l x reply p
@@ -78,9 +78,9 @@ module _ (t : Tables) (l : Ledger) (x : Call) (reply : List ℕ) (p : ℕ) where
 module _ (t : Tables) (taken : TablesTaken t) (p : ℕ) where
   module _ (card : Card) (l : Ledger) (a : Agree t card l) where
     -- ---- a message: its three entries, and none
-    module _ (m : List ℕ) (room : ℕ) where
+    module _ (m : List ℕ) (space : ℕ) where
       abbrev reply : List ℕ
-      reply = outcomeOf t card (message m room) .reply
+      reply = outcomeOf t card (message m space) .reply
 
       abbrev given : Ledger
       given = writeAt l (portIn t reply) (λ x. withDelegation x (amountIn reply))
@@ -99,7 +99,7 @@ module _ (t : Tables) (taken : TablesTaken t) (p : ℕ) where
       message-other n = go (eqb (kindIn reply) 147) refl sets (eqb (kindIn m) 144 && (eqb (resultIn m) 1 || eqb (resultIn m) 2))
         where
           go : (b : Bool) → eqb (kindIn reply) 147 ≡ b → (c d : Bool) → cond b given (cond c taken-up (cond d acted l)) p ≡ l p
-          go true e c d = at-other l p (portIn t reply) _ (λ s. n (sym (reply-147 t card l a taken m room (eqb-true (kindIn reply) 147 e) .port) ∙ s))
+          go true e c d = at-other l p (portIn t reply) _ (λ s. n (sym (reply-147 t card l a taken m space (eqb-true (kindIn reply) 147 e) .port) ∙ s))
           go false e true d = at-other l p (portIn t m) _ n
           go false e false true = at-other l p (portIn t m) _ n
           go false e false false = refl
@@ -110,7 +110,7 @@ module _ (t : Tables) (taken : TablesTaken t) (p : ℕ) where
         where
           go : (b : Bool) → eqb (kindIn reply) 147 ≡ b → (c : Bool) → sets ≡ c → (d : Bool)
               → cond b given (cond c taken-up (cond d acted l)) p .delegation ≡ l p .delegation
-          go true e c s d = absurd (n (inl (reply-147 t card l a taken m room (eqb-true (kindIn reply) 147 e) .kind)))
+          go true e c s d = absurd (n (inl (reply-147 t card l a taken m space (eqb-true (kindIn reply) 147 e) .kind)))
           go false e true s d =
               let b = both (eqb (kindIn m) 147) (eqb (resultIn m) 3) s in
               absurd (n (inr (eqb-true (kindIn m) 147 (b .0), eqb-true (resultIn m) 3 (b .1))))
@@ -119,6 +119,6 @@ module _ (t : Tables) (taken : TablesTaken t) (p : ℕ) where
           go false e false s false = refl
 
       -- a message's
-      pub message-frame : Frame t l (message m room) reply p
-      unfolding entry Names byCall
-      message-frame = record { other = message-other; delegation = λ set moved. message-delegation (moved m room refl) }
+      pub message-frame : Frame t l (message m space) reply p
+      unfolding entry IsAbout byCall
+      message-frame = record { other = message-other; delegation = λ set moved. message-delegation (moved m space refl) }

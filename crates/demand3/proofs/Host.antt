@@ -147,12 +147,12 @@ module _ (t : Tables) (card : Card) (l : Ledger) (a : Agree t card l) (p : ℕ) 
         (record { is-up = b .is-up; delegation = b .delegation; bounded = b .bounded; idle = b .idle; asks-more = λ z. more })))
         (takenFrom (card .head .counter) .next)
 
-    pub ask-step : (room : ℕ) → Agree t (outcomeOf t card (ask p required preferred room) .card) (entered t l (seen ours t card (ask p required preferred room)))
+    pub ask-step : (space : ℕ) → Agree t (outcomeOf t card (ask p required preferred space) .card) (entered t l (seen ours t card (ask p required preferred space)))
     unfolding outcomeOf entered entry askOf askedOf
-    ask-step room =
+    ask-step space =
         let may = cond (mayAsk (portAt card p) required preferred) (askedOf (t .ids) card p required preferred) (keeps card 12) in
         let up = cond (portAt card p .up) may (keeps card 6) in
-        goes-by t l l (ltb room 4608) (keeps card 13) (cond (hasPort card p) up (keeps card 7)) (λ r. a)
+        goes-by t l l (ltb space 4608) (keeps card 13) (cond (hasPort card p) up (keeps card 7)) (λ r. a)
         (λ r. goes-by t l l (hasPort card p) up (keeps card 7)
         (λ h. goes-by t l l (portAt card p .up) may (keeps card 6)
         (λ u. goes-by t l l (mayAsk (portAt card p) required preferred) (askedOf (t .ids) card p required preferred) (keeps card 12)

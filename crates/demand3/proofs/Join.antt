@@ -1,5 +1,5 @@
 -- Join on a card that agrees with a ledger.
---     join-step           card and ledger agree behind it
+--     join-step           card and ledger agree after it
 --     join-white          a white-listed join of a flow that is wanted comes to admission
 --     join-starts         it starts exactly where the ledger says so: demand 3's clause for joins
 -- Assumes nothing.
@@ -37,7 +37,7 @@ use Rattle.demand3.proofs.Admit.{admits, admits-step}
 use Rattle.demand3.proofs.Host.{Goes, goes-by, on-port}
 
 module _ (t : Tables) (card : Card) (l : Ledger) (a : Agree t card l) (p : ℕ) (f : Flow) where
-  -- the ledger behind a join that begins
+  -- the ledger after a join that begins
   abbrev begun : Ledger
   begun = write l p (begins (l p) f (t .whiteCac))
 
@@ -47,7 +47,7 @@ module _ (t : Tables) (card : Card) (l : Ledger) (a : Agree t card l) (p : ℕ) 
   abbrev started : ℕ → Outcome
   started k = becomes (withPool card (began (card .pool) p k (card .head .«white_cac») 0))
 
-  -- ---- card and ledger agree behind it
+  -- ---- card and ledger agree after it
   module _ (port : p < 64) (up : portAt card p .up ≡ true) (k : ℕ) (e : found t f ≡ At k) (idle : isActive (card .pool) p k ≡ false) where
     white-step : Goes t l begun (whiteOf (t .channels) card p k)
     unfolding whiteOf
@@ -74,13 +74,13 @@ module _ (t : Tables) (card : Card) (l : Ledger) (a : Agree t card l) (p : ℕ) 
   abbrev row : ℕ → Outcome
   row n = joinRow (t .ids) (t .channels) (t .entries) card p f (channelOf (t .channels) n f)
 
-  module _ (room : ℕ) where
-    pub join-step : Agree t (outcomeOf t card (join p f room) .card) (entered t l (seen ours t card (join p f room)))
+  module _ (space : ℕ) where
+    pub join-step : Agree t (outcomeOf t card (join p f space) .card) (entered t l (seen ours t card (join p f space)))
     unfolding outcomeOf entered entry joinOf
     join-step =
         let good = cond (goodFlow f) (row (card .head .«channel_count»)) (keeps card 8) in
         let up = cond (portAt card p .up) good (keeps card 6) in
-        goes-by t l begun (ltb room 4608) (keeps card 13) (cond (hasPort card p) up (keeps card 7)) (λ r. a)
+        goes-by t l begun (ltb space 4608) (keeps card 13) (cond (hasPort card p) up (keeps card 7)) (λ r. a)
         (λ r. goes-by t l begun (hasPort card p) up (keeps card 7)
         (λ h. goes-by t l begun (portAt card p .up) good (keeps card 6)
         (λ u. goes-by t l begun (goodFlow f) (row (card .head .«channel_count»)) (keeps card 8)
@@ -88,7 +88,7 @@ module _ (t : Tables) (card : Card) (l : Ledger) (a : Agree t card l) (p : ℕ) 
         (λ g. a)) (λ u. a)) (λ h. a))
 
     -- ---- a join of a flow that is wanted, white-listed and with room for a reply
-    module _ (taken : TablesTaken t) (w : Wanted t l p f) (white : listDecision (t .entries) (t .entryCount) f ≡ White) (large : 4608 ≤ room) where
+    module _ (taken : TablesTaken t) (w : Wanted t l p f) (white : listDecision (t .entries) (t .entryCount) f ≡ White) (large : 4608 ≤ space) where
       port : p < 64
       port = below t card l a taken p (w .port)
 
@@ -97,12 +97,12 @@ module _ (t : Tables) (card : Card) (l : Ledger) (a : Agree t card l) (p : ℕ) 
           let g = channel-found (t .channels) (t .channelCount) f e in
           ap goodFlow (sym (g .is)) ∙ taken .channel k (g .below) .good
 
-      pub join-white : (k : ℕ) → found t f ≡ At k → joinOf (t .ids) (t .channels) (t .entries) card p f room ≡ whiteOf (t .channels) card p k
+      pub join-white : (k : ℕ) → found t f ≡ At k → joinOf (t .ids) (t .channels) (t .entries) card p f space ≡ whiteOf (t .channels) card p k
       unfolding joinOf joinRow byList
       join-white k e =
           let found-here : channelOf (t .channels) (card .head .«channel_count») f ≡ At k = ap (λ (n : ℕ). channelOf (t .channels) n f) (a .channels) ∙ e in
           let decided : listDecision (t .entries) (card .head .«entry_count») f ≡ White = ap (λ (n : ℕ). listDecision (t .entries) n f) (a .entries) ∙ white in
-          rw (le-ltb room 4608 large, has-port t card l a taken p (w .port), a .at p port .is-up ∙ w .is-up, is-good k e, found-here, active-is t card l a p port f k e ∙ w .idle, decided)
+          rw (le-ltb space 4608 large, has-port t card l a taken p (w .port), a .at p port .is-up ∙ w .is-up, is-good k e, found-here, active-is t card l a p port f k e ∙ w .idle, decided)
 
       -- its number is 0 exactly where admission's is
       white-number : (k : ℕ) → (whiteOf (t .channels) card p k .number ≡ 0) ↔ (admission k ≡ 0)
@@ -113,7 +113,7 @@ module _ (t : Tables) (card : Card) (l : Ledger) (a : Agree t card l) (p : ℕ) 
           there true s z = eqb-true (admission k) 0 s
           there false s z = z
 
-      number-starts : (outcomeOf t card (join p f room) .number ≡ 0) ↔ Starts t (t .whiteCac) l p f
+      number-starts : (outcomeOf t card (join p f space) .number ≡ 0) ↔ Starts t (t .whiteCac) l p f
       unfolding outcomeOf
       number-starts =
           listed-by t f (w .is-listed) (λ k e.
@@ -121,23 +121,23 @@ module _ (t : Tables) (card : Card) (l : Ledger) (a : Agree t card l) (p : ℕ) 
           let rule = admits t card l a p port f k e (a .white) in
           (λ z. rule .0 (white-number k .0 (sym same ∙ z)), λ s. same ∙ white-number k .1 (rule .1 s)))
 
-      -- and the flow is active behind it exactly then
-      active-number : activeAt (t .channels) (outcomeOf t card (join p f room) .card) p f ≡ eqb (outcomeOf t card (join p f room) .number) 0
+      -- and the flow is active after it exactly then
+      active-number : activeAt (t .channels) (outcomeOf t card (join p f space) .card) p f ≡ eqb (outcomeOf t card (join p f space) .number) 0
       unfolding entered entry holds
       active-number =
-          reads-active t (outcomeOf t card (join p f room) .card) (entered t l (seen ours t card (join p f room))) join-step taken p (w .port) f
-          ∙ go (eqb (outcomeOf t card (join p f room) .number) 0)
+          reads-active t (outcomeOf t card (join p f space) .card) (entered t l (seen ours t card (join p f space))) join-step taken p (w .port) f
+          ∙ go (eqb (outcomeOf t card (join p f space) .number) 0)
         where
           go : (b : Bool) → holds f (cond b begun l p .flows) ≡ b
           go true = ap (λ (x : Line). holds f (x .flows)) (write-same l p (begins (l p) f (t .whiteCac))) ∙ ap (λ (b : Bool). b || holds f (l p .flows)) (same-flow-refl f)
           go false = w .idle
 
-      pub join-starts : ((outcomeOf t card (join p f room) .number ≡ 0) ↔ Starts t (t .whiteCac) l p f)
-          × ((activeAt (t .channels) (outcomeOf t card (join p f room) .card) p f ≡ true) ↔ Starts t (t .whiteCac) l p f)
+      pub join-starts : ((outcomeOf t card (join p f space) .number ≡ 0) ↔ Starts t (t .whiteCac) l p f)
+          × ((activeAt (t .channels) (outcomeOf t card (join p f space) .card) p f ≡ true) ↔ Starts t (t .whiteCac) l p f)
       join-starts = (
         number-starts,
         (
-          λ z. number-starts .0 (eqb-true (outcomeOf t card (join p f room) .number) 0 (sym active-number ∙ z)),
-          λ s. active-number ∙ eq-eqb (outcomeOf t card (join p f room) .number) 0 (number-starts .1 s),
+          λ z. number-starts .0 (eqb-true (outcomeOf t card (join p f space) .number) 0 (sym active-number ∙ z)),
+          λ s. active-number ∙ eq-eqb (outcomeOf t card (join p f space) .number) 0 (number-starts .1 s),
         ),
       )

@@ -30,7 +30,7 @@ use Rattle.demand3.proofs.Views.{port-below, Came, kept, notice, refuse
 use Rattle.demand3.proofs.Commands.{ran, Tells, commands-tell, acted-told}
 use Rattle.demand3.proofs.Acts.{commands-agree}
 use Rattle.demand3.proofs.Entries.{entry-ordered, entry-kept, entry-other, refused-agrees}
-use Rattle.demand3.proofs.Delegations.{ledgerBehind, Agreed, reallocated-agreed, transferred-agreed}
+use Rattle.demand3.proofs.Delegations.{ledgerAfterAnswer, Agreed, reallocated-agreed, transferred-agreed}
 
 module _ (t : Tables) (card : Card) (l : Ledger) (a : Agree t card l) (m : List ℕ) where
   -- ---- what a message that passes the table has, in the ledger's terms
@@ -73,7 +73,7 @@ module _ (t : Tables) (card : Card) (l : Ledger) (a : Agree t card l) (m : List 
         commands-agree t p below l (headerIn m) (idAt (t .ids) p) card (l p) 1 commands (agree-as t (λ q. sym (write-back l p q)) a) up
 
     controlled-agreed : kindIn m ≡ 144 → (eqb (resultIn m) 1 || eqb (resultIn m) 2) ≡ true → portIn t m ≡ At p → Agreed t l m answer
-    unfolding ledgerBehind writeAt
+    unfolding ledgerAfterAnswer writeAt
     controlled-agreed k r port =
         subst (Agree t (answer .card))
         (sym (ap (λ (n : ℕ). cond (eqb n 0) (messageEntry t l m (answer .reply)) l) (controlled-tells .number)
@@ -88,7 +88,7 @@ module _ (t : Tables) (card : Card) (l : Ledger) (a : Agree t card l) (m : List 
   result-ok h k r = ap (λ (n : ℕ). resultOk n (h .result)) (sym k) ∙ r
 
   came-agreed : TablesTaken t → (o : Outcome) → Came (t .ids) (t .channels) card m o → Agreed t l m o
-  unfolding ledgerBehind kindIn resultIn amountIn tlvsIn
+  unfolding ledgerAfterAnswer kindIn resultIn amountIn tlvsIn
   came-agreed taken o (kept n z) = subst (λ (b : Bool). Agree t card (cond b (messageEntry t l m []) l)) (sym (ne-eqb n 0 z)) a
   came-agreed taken o (notice k r) = subst (Agree t card) (sym (entry-kept t l m [] (λ e. omega (arith, kind-none)) (rw k) (rw (k, r)))) a
   came-agreed taken o (refused code n) = refused-agrees t card l a m code n
@@ -99,6 +99,6 @@ module _ (t : Tables) (card : Card) (l : Ledger) (a : Agree t card l) (m : List 
       subst (Agree t card) (sym (entry-other t l m reply (λ k. omega arith) (λ k. omega arith) (λ k. omega arith))) a
   came-agreed taken o (answered p k r s) = transferred-agreed t card l a p (port-below-64 s) m k r (names-port s)
 
-  pub message-step : TablesTaken t → (room : ℕ) → Agree t (outcomeOf t card (message m room) .card) (entered t l (seen ours t card (message m room)))
-  unfolding outcomeOf entered entry ledgerBehind
-  message-step taken room = came-agreed taken (receivedOf (t .ids) (t .channels) card m room) (came (t .ids) (t .channels) card m room)
+  pub message-step : TablesTaken t → (space : ℕ) → Agree t (outcomeOf t card (message m space) .card) (entered t l (seen ours t card (message m space)))
+  unfolding outcomeOf entered entry ledgerAfterAnswer
+  message-step taken space = came-agreed taken (receivedOf (t .ids) (t .channels) card m space) (came (t .ids) (t .channels) card m space)

@@ -10,7 +10,7 @@ use Rattle.control.specs.Control.{commandsIn, controlled}
 use Rattle.transfers.specs.Transfers.{transferGives}
 use Rattle.demand3.specs.Calls.{Tables, Call, outcomeOf}
 use Rattle.demand3.proofs.Commands.{commands-tell}
-use Rattle.demand3.proofs.Ways.{Way, stays, replies, rises, falls, sets, closes, reduces, asks, beside, commanded, grey}
+use Rattle.demand3.proofs.Ways.{Way, stays, replies, rises, falls, sets, closes, reduces, asks, keepsPorts, commanded, grey}
 use Rattle.demand3.proofs.Each.{call-way}
 
 module _ (t : Tables) (card : Card) (x : Call) where
@@ -26,10 +26,10 @@ module _ (t : Tables) (card : Card) (x : Call) where
   way-quiet o (sets p amount) a b = absurd (a refl)
   way-quiet o (closes p) a b = absurd (a refl)
   way-quiet o (reduces h p amount) a b = absurd (a refl)
-  way-quiet o (asks p required preferred room e h u) a b = absurd (a refl)
-  way-quiet o (beside card′ e n) a b = absurd (a refl)
+  way-quiet o (asks p required preferred space e h u) a b = absurd (a refl)
+  way-quiet o (keepsPorts card′ e n) a b = absurd (a refl)
   way-quiet o (commanded h p s) a b = absurd (a (commands-tell (t .channels) h (idAt (t .ids) p) p card 1 (commandsIn s) .number))
-  way-quiet o (grey p f room e) a b = absurd (b refl)
+  way-quiet o (grey p f space e) a b = absurd (b refl)
 
   pub call-quiet : Quiet (outcomeOf t card x)
   call-quiet = way-quiet (outcomeOf t card x) (call-way t card x)

@@ -21,7 +21,7 @@ use Rattle.fields.specs.Fields.{circuitIds, lengthOk}
 use Rattle.circuits.specs.Circuits.{portOf}
 use Rattle.card.specs.Cards.{Card}
 use Rattle.checks.specs.declared.Verdict.the-variants.{Refused, Passed}
-use Rattle.checks.specs.Named.{beside, needed, missing, singleOf, fromFault}
+use Rattle.checks.specs.Named.{alsoNeeded, needed, missing, singleOf, fromFault}
 use Rattle.checks.specs.Table.{handled, resultOk, idIn, located, faults, namedRows, tableOf}
 use Rattle.control.specs.Control.{controlled}
 use Rattle.queries.specs.Queries.{flowQuery}
@@ -114,11 +114,11 @@ module _ (t : Tables) (card : Card) (l : Ledger) (a : Agree t card l) (m : List 
 
       -- with the right Result, and with all that it needs, it is carried out
       pub sound-comes : handled kind ≡ true → resultOk kind (resultIn m) ≡ true → depthOf (resultIn m) ≡ 3
-          → (kind ≡ 147 → ⊥) → isAnswer (resultIn m) ≡ false → (eqb kind 144 && eqb (resultIn m) 0) ≡ false → (room : ℕ) → 4608 ≤ room
-          → receivedOf (t .ids) (t .channels) card m room ≡ byType (t .ids) (t .channels) card (headerIn m) s p
+          → (kind ≡ 147 → ⊥) → isAnswer (resultIn m) ≡ false → (eqb kind 144 && eqb (resultIn m) 0) ≡ false → (space : ℕ) → 4608 ≤ space
+          → receivedOf (t .ids) (t .channels) card m space ≡ byType (t .ids) (t .channels) card (headerIn m) s p
       unfolding receivedOf headIn byHead kindIn resultIn isNotice
-      sound-comes known ok depth other n z room k =
-          rw (le-ltb room 4608 k, r .size, r .header)
+      sound-comes known ok depth other n z space k =
+          rw (le-ltb space 4608 k, r .size, r .header)
           (carried-out (t .ids) (t .channels) card (headerIn m) s p (λ e. other (sym (r .is-kind) ∙ e)) n
           (ap (λ (j : ℕ). eqb j 144 && eqb (headerIn m .result) 0) (r .is-kind) ∙ z) (passed known ok depth))
 
@@ -137,34 +137,34 @@ module _ (t : Tables) (card : Card) (l : Ledger) (a : Agree t card l) (m : List 
   result-by C x y = ⊎-elim (λ (e : resultIn m ≡ 1). subst C (sym e) x) (λ (e : resultIn m ≡ 2). subst C (sym e) y) (r .result)
 
   none-missing : length (missing (needed 144) (itemsOf (drop 16 m))) ≡ 0
-  unfolding missing beside countOf
+  unfolding missing alsoNeeded countOf
   none-missing =
       let is : List Item = itemsOf (drop 16 m) in
       let n : length (ofType 0x0011 is) ≡ length before + suc (length after) = ap length (r .commands) ∙ length-append before (r .here ∷ after) in
       rw (ne-eqb (length (ofType 0x1000 is)) 0 (some-target t card l a m 144 p (r .sound)), ne-eqb (length (ofType 0x0011 is)) 0 (λ e. omega arith))
 
-  pub reached : (room : ℕ) → 4608 ≤ room → receivedOf (t .ids) (t .channels) card m room ≡ controlled (t .ids) (t .channels) card (headerIn m) p (drop 16 m)
+  pub reached : (space : ℕ) → 4608 ≤ space → receivedOf (t .ids) (t .channels) card m space ≡ controlled (t .ids) (t .channels) card (headerIn m) p (drop 16 m)
   unfolding singleOf handled resultOk isAnswer byType kindIn
-  reached room k =
+  reached space k =
       sound-comes t card l a m 144 p (r .sound) reached-up refl none-missing refl (result-by (λ n. (eqb n 1 || eqb n 2) ≡ true) refl refl)
       (result-by (λ n. depthOf n ≡ 3) refl refl) (λ e. omega arith) (result-by (λ n. isAnswer n ≡ false) refl refl)
-      (result-by (λ n. eqb n 0 ≡ false) refl refl) room k
+      (result-by (λ n. eqb n 0 ≡ false) refl refl) space k
       ∙ sym (taken (eqb (headerIn m .kind) 144) _ _ (eq-eqb (headerIn m .kind) 144 (r .sound .is-kind)))
 
 -- ---- what a Multicast Flow Query comes to
 module _ (t : Tables) (card : Card) (l : Ledger) (a : Agree t card l) (m : List ℕ) (p : ℕ) (r : Sound t m 149 p) (two : resultIn m ≡ 2)
     (up : l p .isUp ≡ true) where
   none-missing-149 : length (missing (needed 149) (itemsOf (drop 16 m))) ≡ 0
-  unfolding missing beside
+  unfolding missing alsoNeeded
   none-missing-149 = rw (ne-eqb (countOf 0x1000 (itemsOf (drop 16 m))) 0 (some-target t card l a m 149 p r))
 
-  pub flows-queried : (room : ℕ) → 4608 ≤ room → receivedOf (t .ids) (t .channels) card m room ≡ flowQuery (t .ids) (t .channels) card (headerIn m) p
+  pub flows-queried : (space : ℕ) → 4608 ≤ space → receivedOf (t .ids) (t .channels) card m space ≡ flowQuery (t .ids) (t .channels) card (headerIn m) p
   unfolding singleOf handled resultOk isAnswer byType kindIn
-  flows-queried room k =
+  flows-queried space k =
       let by : (C : ℕ → Type 0) → C 2 → C (resultIn m) = λ C x. subst C (sym two) x in
       let other : (n : ℕ) → (149 ≡ n → ⊥) → eqb (headerIn m .kind) n ≡ false = λ n d. ne-eqb (headerIn m .kind) n (λ e. d (sym (r .is-kind) ∙ e)) in
       sound-comes t card l a m 149 p r up refl none-missing-149 refl (by (λ n. eqb n 2 ≡ true) refl) (by (λ n. depthOf n ≡ 3) refl)
-      (λ e. omega arith) (by (λ n. isAnswer n ≡ false) refl) refl room k
+      (λ e. omega arith) (by (λ n. isAnswer n ≡ false) refl) refl space k
       ∙ sym (left (eqb (headerIn m .kind) 144) _ _ (other 144 (λ e. omega arith)))
       ∙ sym (left (eqb (headerIn m .kind) 146) _ _ (other 146 (λ e. omega arith)))
       ∙ sym (left (eqb (headerIn m .kind) 148) _ _ (other 148 (λ e. omega arith)))

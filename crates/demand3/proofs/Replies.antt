@@ -18,7 +18,7 @@ use Rattle.replies.specs.Replies.{replyHeader, refusalOf, successOf, amountRepl
 use Rattle.rows.specs.declared.Found.the-variants.{At}
 use Rattle.circuits.specs.Circuits.{idAt, portOf}
 use Rattle.tables.proofs.Tables.{own-port}
-use Rattle.checks.specs.Named.{beside, missing, singleOf, fromFault}
+use Rattle.checks.specs.Named.{alsoNeeded, missing, singleOf, fromFault}
 use Rattle.checks.specs.Table.{idIn, copyOf, enclosedOf, refusedOf}
 use Rattle.control.specs.Control.{failureOf}
 use Rattle.queries.specs.Queries.{flowsReply, flowTlvs}
@@ -119,7 +119,7 @@ module _ (h : Header) (code : ℕ) (id : List ℕ) (seq : ℕ) (c : List ℕ) wh
   sequence-failure = ap (λ (is : List Item). sequenceIn (firstOf 0x0022 is)) enclosed-failure ∙ read-back .sequence seq .fields .1
 
 -- ---- a refusal by the table names no command: nothing that it encloses is a Sequence-Number
--- w adds no TLV of that type to those behind it
+-- w adds no TLV of that type to those after it
 unfoldable Unnumbered : List ℕ → Type 0
 Unnumbered w = (r : List ℕ) → countOf 0x0022 (itemsOf (w ++ r)) ≡ countOf 0x0022 (itemsOf r)
 
@@ -156,7 +156,7 @@ copy-unnumbered target other (i ∷ is) =
     (copy-unnumbered true other is) (copy-unnumbered target other is)
 
 enclosed-unnumbered : (s : List ℕ) (code : ℕ) → Unnumbered (enclosedOf 144 s code)
-unfolding enclosedOf missing beside singleOf targetOf
+unfolding enclosedOf missing alsoNeeded singleOf targetOf
 enclosed-unnumbered s code =
     some-unnumbered (eqb code 0x54) _ _
     (both-unnumbered _ _ (bare 0x1000 (λ k. omega arith)) (both-unnumbered _ _ (bare 0x0011 (λ k. omega arith)) none-unnumbered))

@@ -1,5 +1,5 @@
 -- What calls do to one port's record, and to its open request.
---     Survives, calls-keep     a fact of a port's record that no change of a record ends holds behind any list of calls
+--     Survives, calls-keep     a fact of a port's record that no change of a record ends holds after any list of calls
 --     stays-closed             a request that is closed stays closed until the host asks for the port
 --     down-closed              a port that is down has no open request
 -- Assumes nothing.
@@ -26,7 +26,7 @@ use Rattle.demand3.specs.Ledger.{Ledger, entered}
 use Rattle.demand3.specs.Corollaries.{Asks, NoneAsks}
 use Rattle.demand3.proofs.Agree.{Agree, TablesTaken, same-or-not}
 use Rattle.demand3.proofs.Steps.{port-set}
-use Rattle.demand3.proofs.Ways.{Way, stays, replies, rises, falls, sets, closes, reduces, asks, beside, commanded, grey}
+use Rattle.demand3.proofs.Ways.{Way, stays, replies, rises, falls, sets, closes, reduces, asks, keepsPorts, commanded, grey}
 use Rattle.demand3.proofs.Each.{call-way, call-step}
 use Rattle.demand3.proofs.Counter.{commands-keep}
 
@@ -40,7 +40,7 @@ pub record Survives (R : Port → Type 0) : Type 0 where
 module _ (t : Tables) (taken : TablesTaken t) (p : ℕ) (below : p < 64) (R : Port → Type 0) (s : Survives R) where
   -- and that asking for port p by this call does not end
   abbrev Opens : Call → Type 0
-  Opens x = (q required preferred room : ℕ) → x ≡ ask q required preferred room → q ≡ p → (y : Port) → y .up ≡ true → (n : ℕ) → R (asked y required preferred n)
+  Opens x = (q required preferred space : ℕ) → x ≡ ask q required preferred space → q ≡ p → (y : Port) → y .up ≡ true → (n : ℕ) → R (asked y required preferred n)
 
   unfoldable AllOpen : List Call → Type 0
   AllOpen [] = Unit {0}
@@ -64,12 +64,12 @@ module _ (t : Tables) (taken : TablesTaken t) (p : ℕ) (below : p < 64) (R : Po
     way-keeps x n o (sets q amount) = written q _ (λ e. s .give (portAt card q) amount)
     way-keeps x n o (closes q) = written q _ (λ e. s .close (portAt card q))
     way-keeps x n o (reduces h q amount) = written q _ (λ e. s .give (portAt card q) amount)
-    way-keeps x n o (asks q required preferred room is has up) =
-        written q _ (λ e z. n q required preferred room is e (portAt card q) up (takenFrom (card .head .counter) .number))
-    way-keeps x n o (beside card′ e m) = subst (λ (ps : List Port). R (getD ps p freshPort)) (sym e) r
+    way-keeps x n o (asks q required preferred space is has up) =
+        written q _ (λ e z. n q required preferred space is e (portAt card q) up (takenFrom (card .head .counter) .number))
+    way-keeps x n o (keepsPorts card′ e m) = subst (λ (ps : List Port). R (getD ps p freshPort)) (sym e) r
     way-keeps x n o (commanded h q w) =
         subst (λ (ps : List Port). R (getD ps p freshPort)) (sym (commands-keep (λ c. c .ports) (λ c pool. refl) (t .channels) q h (idAt (t .ids) q) card 1 (commandsIn w))) r
-    way-keeps x n o (grey q f room e) = r
+    way-keeps x n o (grey q f space e) = r
 
     call-keeps : (x : Call) → Opens x → R (portAt (outcomeOf t card x .card) p)
     call-keeps x n = way-keeps x n (outcomeOf t card x) (call-way t card x)
@@ -121,7 +121,7 @@ down-survives =
 module _ (t : Tables) (taken : TablesTaken t) (p : ℕ) (below : p < 64) where
   not-opened : (x : Call) → (Asks x p → ⊥) → Opens t taken p below Closed closed-survives x
   unfolding Asks byCall
-  not-opened x n q required preferred room e same y u k = absurd (n (subst (λ (z : Call). Asks z p) (sym e) same))
+  not-opened x n q required preferred space e same y u k = absurd (n (subst (λ (z : Call). Asks z p) (sym e) same))
 
   none-opened : (xs : List Call) → NoneAsks xs p → AllOpen t taken p below Closed closed-survives xs
   unfolding NoneAsks AllOpen
@@ -133,7 +133,7 @@ module _ (t : Tables) (taken : TablesTaken t) (p : ℕ) (below : p < 64) where
 
   -- asking needs a port that is up
   up-opened : (x : Call) → Opens t taken p below DownClosed down-survives x
-  up-opened x q required preferred room e same y u k d = absurd (false≢true (sym d ∙ u))
+  up-opened x q required preferred space e same y u k d = absurd (false≢true (sym d ∙ u))
 
   all-opened : (xs : List Call) → AllOpen t taken p below DownClosed down-survives xs
   unfolding AllOpen

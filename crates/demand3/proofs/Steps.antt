@@ -90,8 +90,8 @@ givenOf card =
 
 module _ (t : Tables) (card : Card) (l : Ledger) (a : Agree t card l) where
   -- what demand 3 does not speak of changes: the counter, the layout, the words
-  pub beside-step : (card′ : Card) → card′ .ports ≡ card .ports → card′ .pool ≡ card .pool → givenOf card′ ≡ givenOf card → Agree t card′ l
-  beside-step card′ ports pool s =
+  pub parts-kept-step : (card′ : Card) → card′ .ports ≡ card .ports → card′ .pool ≡ card .pool → givenOf card′ ≡ givenOf card → Agree t card′ l
+  parts-kept-step card′ ports pool s =
       record {
         ports = ap (λ (g : Given). g .ports) s ∙ a .ports;
         channels = ap (λ (g : Given). g .channels) s ∙ a .channels;
@@ -106,7 +106,7 @@ module _ (t : Tables) (card : Card) (l : Ledger) (a : Agree t card l) where
       }
 
   pub counter-step : (c : Counter) → Agree t (withCounter card c) l
-  counter-step c = beside-step (withCounter card c) refl refl refl
+  counter-step c = parts-kept-step (withCounter card c) refl refl refl
 
   module _ (p : ℕ) (port : p < 64) where
     module _ (pool : Pool) (hs : List Held) where

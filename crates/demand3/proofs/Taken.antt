@@ -68,17 +68,17 @@ module _ (t : Tables) (card : Card) (ports : card .head .«port_count» ≡ t .p
     unfolding outcomeOf setDelegationOf
     delegation-known amount z = at-port p _ z
 
-    pub join-known : (f : Flow) (room : ℕ) → Known t card (join p f room) p
+    pub join-known : (f : Flow) (space : ℕ) → Known t card (join p f space) p
     unfolding outcomeOf joinOf
-    join-known f room z = at-port p _ (past-buffer card (ltb room 4608) _ z)
+    join-known f space z = at-port p _ (past-buffer card (ltb space 4608) _ z)
 
     pub leave-known : (f : Flow) → Known t card (leave p f) p
     unfolding outcomeOf leaveOf
     leave-known f z = at-port p _ z
 
-    pub ask-known : (required preferred room : ℕ) → Known t card (ask p required preferred room) p
+    pub ask-known : (required preferred space : ℕ) → Known t card (ask p required preferred space) p
     unfolding outcomeOf askOf
-    ask-known required preferred room z = at-port p _ (past-buffer card (ltb room 4608) _ z)
+    ask-known required preferred space z = at-port p _ (past-buffer card (ltb space 4608) _ z)
 
 -- a message's Target names no number but a port's
 pub named-known : (t : Tables) (m : List ℕ) (p : ℕ) → portIn t m ≡ At p → p < t .ports

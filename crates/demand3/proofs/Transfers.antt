@@ -113,9 +113,9 @@ module _ (t : Tables) (card : Card) (l : Ledger) (a : Agree t card l) (taken : T
       let none = transferred-silent card (headerIn m) p (allocationIn (firstOf 0x0015 (itemsOf (drop 16 m)))) in
       absurd (omega (arith, sym (ap kindIn none) ∙ e, kind-none))
 
-  pub reply-147 : (room : ℕ) → kindIn (outcomeOf t card (message m room) .reply) ≡ 147 → Transfers t m (outcomeOf t card (message m room) .reply)
+  pub reply-147 : (space : ℕ) → kindIn (outcomeOf t card (message m space) .reply) ≡ 147 → Transfers t m (outcomeOf t card (message m space) .reply)
   unfolding outcomeOf
-  reply-147 room = came-147 (receivedOf (t .ids) (t .channels) card m room) (came (t .ids) (t .channels) card m room)
+  reply-147 space = came-147 (receivedOf (t .ids) (t .channels) card m space) (came (t .ids) (t .channels) card m space)
 
 -- ---- a 147 that comes in
 pub at-eq : {q p : ℕ} → At q ≡ At p → q ≡ p
@@ -139,4 +139,4 @@ module _ (t : Tables) (card : Card) (ports : card .head .«port_count» ≡ t .p
 
   pub takes-none : TakesNone t card p
   unfolding outcomeOf
-  takes-none m room kind port e = came-none m kind port (receivedOf (t .ids) (t .channels) card m room) (came (t .ids) (t .channels) card m room) e
+  takes-none m space kind port e = came-none m kind port (receivedOf (t .ids) (t .channels) card m space) (came (t .ids) (t .channels) card m space) e

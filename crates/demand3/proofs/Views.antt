@@ -125,8 +125,8 @@ module _ (ids channels : List ℕ) (card : Card) (m : List ℕ) where
       go true = came-result
       go false = kept 15 (λ e. omega arith)
 
-  pub came : (room : ℕ) → Came (receivedOf ids channels card m room)
+  pub came : (space : ℕ) → Came (receivedOf ids channels card m space)
   unfolding receivedOf
-  came room =
-      pick (ltb room 4608) _ _ (λ a. kept 13 (λ e. omega arith))
+  came space =
+      pick (ltb space 4608) _ _ (λ a. kept 13 (λ e. omega arith))
       (λ a. pick (sizeOk m) _ _ (λ b. came-head) (λ b. kept 15 (λ e. omega arith)))

@@ -54,13 +54,13 @@ module _ (t : Tables) (card : Card) (x : Call) where
     sets : (p amount : ℕ) → Way (becomes (withPort card p (delegated (portAt card p) amount)))
     closes : (p : ℕ) → Way (becomes (withPort card p (closed (portAt card p))))
     reduces : (h : Header) (p amount : ℕ) → Way (transferGives (t .ids) card h p amount)
-    asks : (p required preferred room : ℕ) → x ≡ ask p required preferred room → hasPort card p ≡ true → portAt card p .up ≡ true
+    asks : (p required preferred space : ℕ) → x ≡ ask p required preferred space → hasPort card p ≡ true → portAt card p .up ≡ true
         → Way (askedOf (t .ids) card p required preferred)
     -- no port's record changes: flows begin or end, by the host or by commands
-    beside : (card′ : Card) → card′ .ports ≡ card .ports → card′ .head .counter ≡ card .head .counter → Way (becomes card′)
+    keepsPorts : (card′ : Card) → card′ .ports ≡ card .ports → card′ .head .counter ≡ card .head .counter → Way (becomes card′)
     commanded : (h : Header) (p : ℕ) (s : List ℕ) → Way (controlled (t .ids) (t .channels) card h p s)
     -- a transaction number is used
-    grey : (p : ℕ) (f : Flow) (room : ℕ) → x ≡ join p f room → Way (greyOf (t .ids) card p f)
+    grey : (p : ℕ) (f : Flow) (space : ℕ) → x ≡ join p f space → Way (greyOf (t .ids) card p f)
 
   by : (b : Bool) (v w : Outcome) → (b ≡ true → Way v) → Way w → Way (cond b v w)
   by true v w f g = f refl
@@ -68,20 +68,20 @@ module _ (t : Tables) (card : Card) (x : Call) where
 
   flow-way : (p : ℕ) (f : Flow) → Way (leaveFlow (t .channels) card p f)
   unfolding leaveFlow
-  flow-way p f = by (hasFlow (t .channels) (card .pool) p f) _ _ (λ e. beside _ refl refl) (stays 10)
+  flow-way p f = by (hasFlow (t .channels) (card .pool) p f) _ _ (λ e. keepsPorts _ refl refl) (stays 10)
 
-  list-way : (p : ℕ) (f : Flow) (room : ℕ) → x ≡ join p f room → (k : ℕ) (d : Decision) → Way (byList (t .ids) (t .channels) card p f k d)
+  list-way : (p : ℕ) (f : Flow) (space : ℕ) → x ≡ join p f space → (k : ℕ) (d : Decision) → Way (byList (t .ids) (t .channels) card p f k d)
   unfolding byList whiteOf
-  list-way p f room e k White = by (eqb (admitNumber (t .channels) card (card .head .«white_cac») p k) 0) _ _ (λ z. beside _ refl refl) (stays _)
-  list-way p f room e k Grey = grey p f room e
-  list-way p f room e k Black = stays 3
-  list-way p f room e k None = stays 3
+  list-way p f space e k White = by (eqb (admitNumber (t .channels) card (card .head .«white_cac») p k) 0) _ _ (λ z. keepsPorts _ refl refl) (stays _)
+  list-way p f space e k Grey = grey p f space e
+  list-way p f space e k Black = stays 3
+  list-way p f space e k None = stays 3
 
-  row-way : (p : ℕ) (f : Flow) (room : ℕ) → x ≡ join p f room → (r : Found) → Way (joinRow (t .ids) (t .channels) (t .entries) card p f r)
+  row-way : (p : ℕ) (f : Flow) (space : ℕ) → x ≡ join p f space → (r : Found) → Way (joinRow (t .ids) (t .channels) (t .entries) card p f r)
   unfolding joinRow
-  row-way p f room e Nothing = stays 9
-  row-way p f room e (At k) =
-      by (isActive (card .pool) p k) _ _ (λ z. stays 1) (list-way p f room e k (listDecision (t .entries) (card .head .«entry_count») f))
+  row-way p f space e Nothing = stays 9
+  row-way p f space e (At k) =
+      by (isActive (card .pool) p k) _ _ (λ z. stays 1) (list-way p f space e k (listDecision (t .entries) (card .head .«entry_count») f))
 
   reduced-way : (h : Header) (p : ℕ) (o : Outcome) → Reallocation (t .ids) (t .channels) card h p o → Way o
   unfolding transferFails
@@ -120,13 +120,13 @@ module _ (t : Tables) (card : Card) (x : Call) where
     delegation-way amount =
         by (hasPort card p) _ _ (λ h. by (leb (committedOf (t .channels) (card .pool) p) amount) _ _ (λ c. sets p amount) (stays 11)) (stays 7)
 
-    pub join-way : (f : Flow) (room : ℕ) → x ≡ join p f room → Way (outcomeOf t card (join p f room))
+    pub join-way : (f : Flow) (space : ℕ) → x ≡ join p f space → Way (outcomeOf t card (join p f space))
     unfolding outcomeOf joinOf
-    join-way f room e =
-        by (ltb room 4608) _ _ (λ r. stays 13)
+    join-way f space e =
+        by (ltb space 4608) _ _ (λ r. stays 13)
         (by (hasPort card p) _ _
         (λ h. by (portAt card p .up) _ _
-        (λ u. by (goodFlow f) _ _ (λ g. row-way p f room e (channelOf (t .channels) (card .head .«channel_count») f)) (stays 8))
+        (λ u. by (goodFlow f) _ _ (λ g. row-way p f space e (channelOf (t .channels) (card .head .«channel_count») f)) (stays 8))
         (stays 6))
         (stays 7))
 
@@ -139,16 +139,16 @@ module _ (t : Tables) (card : Card) (x : Call) where
         (stays 6))
         (stays 7)
 
-    pub ask-way : (required preferred room : ℕ) → x ≡ ask p required preferred room → Way (outcomeOf t card (ask p required preferred room))
+    pub ask-way : (required preferred space : ℕ) → x ≡ ask p required preferred space → Way (outcomeOf t card (ask p required preferred space))
     unfolding outcomeOf askOf
-    ask-way required preferred room e =
-        by (ltb room 4608) _ _ (λ r. stays 13)
+    ask-way required preferred space e =
+        by (ltb space 4608) _ _ (λ r. stays 13)
         (by (hasPort card p) _ _
         (λ h. by (portAt card p .up) _ _
-        (λ u. by (mayAsk (portAt card p) required preferred) _ _ (λ m. asks p required preferred room e h u) (stays 12))
+        (λ u. by (mayAsk (portAt card p) required preferred) _ _ (λ m. asks p required preferred space e h u) (stays 12))
         (stays 6))
         (stays 7))
 
-  pub message-way : (m : List ℕ) (room : ℕ) → Way (outcomeOf t card (message m room))
+  pub message-way : (m : List ℕ) (space : ℕ) → Way (outcomeOf t card (message m space))
   unfolding outcomeOf
-  message-way m room = came-way m (receivedOf (t .ids) (t .channels) card m room) (came (t .ids) (t .channels) card m room)
+  message-way m space = came-way m (receivedOf (t .ids) (t .channels) card m space) (came (t .ids) (t .channels) card m space)

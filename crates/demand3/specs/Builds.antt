@@ -32,8 +32,8 @@ calling outcome =
     }
 
 -- refuses every join, as if it were black
-unfoldable pub refusing : Tables → Card → Call → Outcome
-refusing t card x = ofJoin (λ p f room. keeps card 3) (outcomeOf t card x) x
+unfoldable pub refusingJoins : Tables → Card → Call → Outcome
+refusingJoins t card x = ofJoin (λ p f space. keeps card 3) (outcomeOf t card x) x
 
 -- gives one number to every call, whatever it does and writes
 unfoldable pub oneAnswer : ℕ → (Tables → Card → Call → Card) → (Tables → Card → Call → List ℕ) → Tables → Card → Call → Outcome
@@ -44,8 +44,8 @@ unfoldable pub dead : Tables → Card → Call → Outcome
 dead t card x = keeps card 7
 
 -- changes nothing, and answers as ours does
-unfoldable pub idle : Tables → Card → Call → Outcome
-idle t card x = record { card = card; number = outcomeOf t card x .number; reply = outcomeOf t card x .reply }
+unfoldable pub changingNothing : Tables → Card → Call → Outcome
+changingNothing t card x = record { card = card; number = outcomeOf t card x .number; reply = outcomeOf t card x .reply }
 
 -- runs command 1 of a 144 and merely acknowledges the others
 unfoldable pub firstRun : Tables → Card → List (List ℕ) → Found → Card
@@ -56,7 +56,7 @@ firstRun t card (c ∷ cs) (At p) = ranOf (t .channels) card p c .card
 unfoldable pub firstOnly : Tables → Card → Call → Outcome
 firstOnly t card x =
     ofMessage
-    (λ m room. cond (eqb (kindIn m) 144)
+    (λ m space. cond (eqb (kindIn m) 144)
     (record {
       card = firstRun t card (commandsIn (drop 16 m)) (portIn t m);
       number = outcomeOf t card x .number;
@@ -92,8 +92,8 @@ forgetful =
     }
 
 -- refuses every message as unusable
-unfoldable pub deaf : Tables → Card → Call → Outcome
-deaf t card x = ofMessage (λ m room. keeps card 15) (outcomeOf t card x) x
+unfoldable pub refusingMessages : Tables → Card → Call → Outcome
+refusingMessages t card x = ofMessage (λ m space. keeps card 15) (outcomeOf t card x) x
 
 -- robs port 0: a 146 for another port cuts port 0's delegation to what is committed there, and the 147 says so, and names port 0
 unfoldable pub robbed : Tables → Card → List ℕ → Found → Outcome → Outcome
@@ -102,16 +102,16 @@ robbed t card m (At p) o = cond (eqb p 0) o (transferGives (t .ids) card (header
 
 unfoldable pub robber : Tables → Card → Call → Outcome
 robber t card x =
-    ofMessage (λ m room. cond (eqb (kindIn m) 146) (robbed t card m (portIn t m) (outcomeOf t card x)) (outcomeOf t card x)) (outcomeOf t card x) x
+    ofMessage (λ m space. cond (eqb (kindIn m) 146) (robbed t card m (portIn t m) (outcomeOf t card x)) (outcomeOf t card x)) (outcomeOf t card x) x
 
 pub record Worthless : Type 0 where
-  pub refuses-every-join : Claim (calling refusing) → ⊥
+  pub refuses-every-join : Claim (calling refusingJoins) → ⊥
   pub gives-one-answer : (number : ℕ) (does : Tables → Card → Call → Card) (writes : Tables → Card → Call → List ℕ)
       → Claim (calling (oneAnswer number does writes)) → ⊥
   pub is-dead : Claim (calling dead) → ⊥
-  pub changes-nothing : Claim (calling idle) → ⊥
+  pub changes-nothing : Claim (calling changingNothing) → ⊥
   pub runs-command-1 : Claim (calling firstOnly) → ⊥
-  pub refuses-every-message : Claim (calling deaf) → ⊥
+  pub refuses-every-message : Claim (calling refusingMessages) → ⊥
   pub invents-committed : Claim inventing → ⊥
   pub leaves-out-a-flow : Claim forgetful → ⊥
   pub robs-a-port : Claim (calling robber) → ⊥

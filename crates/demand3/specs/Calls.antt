@@ -27,15 +27,15 @@ pub record Tables : Type 0 where
   pub whiteCac : Bool
   pub addCac : Bool
 
--- a call with its arguments; `room` is how many octets the lent reply buffer has
+-- a call with its arguments; `space` is how many octets the lent reply buffer has
 pub data Call : Type 0 where
   portUp : (p : ℕ) → Call
   portDown : (p : ℕ) → Call
   setDelegation : (p amount : ℕ) → Call
-  join : (p : ℕ) (f : Flow) (room : ℕ) → Call
+  join : (p : ℕ) (f : Flow) (space : ℕ) → Call
   leave : (p : ℕ) (f : Flow) → Call
-  ask : (p required preferred room : ℕ) → Call
-  message : (octets : List ℕ) (room : ℕ) → Call
+  ask : (p required preferred space : ℕ) → Call
+  message : (octets : List ℕ) (space : ℕ) → Call
 
 -- what a host has of a card: its start, its calls, and the figures and the list of a port's flows that it reads
 pub record Build : Type 0 where
@@ -52,10 +52,10 @@ unfoldable pub outcomeOf : Tables → Card → Call → Outcome
 outcomeOf t card (portUp p) = portUpOf card p
 outcomeOf t card (portDown p) = portDownOf card p
 outcomeOf t card (setDelegation p amount) = setDelegationOf (t .channels) card p amount
-outcomeOf t card (join p f room) = joinOf (t .ids) (t .channels) (t .entries) card p f room
+outcomeOf t card (join p f space) = joinOf (t .ids) (t .channels) (t .entries) card p f space
 outcomeOf t card (leave p f) = leaveOf (t .channels) card p f
-outcomeOf t card (ask p required preferred room) = askOf (t .ids) card p required preferred room
-outcomeOf t card (message octets room) = receivedOf (t .ids) (t .channels) card octets room
+outcomeOf t card (ask p required preferred space) = askOf (t .ids) card p required preferred space
+outcomeOf t card (message octets space) = receivedOf (t .ids) (t .channels) card octets space
 
 unfoldable pub startedOf : Tables → ℕ → Started
 startedOf t first =
@@ -95,9 +95,9 @@ history b t card (x ∷ xs) = seen b t card x ∷ history b t (b .outcome t card
 -- ---- what some statements single out
 -- a join, the host asking, a message; and any other call, by the port that it is about, if it is about one
 unfoldable pub byCall {ℓ} : {A : Type ℓ} → (ℕ → Flow → ℕ → A) → (ℕ → A) → (List ℕ → ℕ → A) → (Found → A) → Call → A
-byCall joins asks told other (join p f room) = joins p f room
-byCall joins asks told other (ask p required preferred room) = asks p
-byCall joins asks told other (message m room) = told m room
+byCall joins asks told other (join p f space) = joins p f space
+byCall joins asks told other (ask p required preferred space) = asks p
+byCall joins asks told other (message m space) = told m space
 byCall joins asks told other (portUp p) = other (At p)
 byCall joins asks told other (portDown p) = other (At p)
 byCall joins asks told other (setDelegation p amount) = other (At p)
@@ -105,7 +105,7 @@ byCall joins asks told other (leave p f) = other (At p)
 
 -- what is said of a join, and of every other call; the same of a message
 abbrev pub ofJoin : {A : Type 0} → (ℕ → Flow → ℕ → A) → A → Call → A
-ofJoin read other = byCall read (λ p. other) (λ m room. other) (λ q. other)
+ofJoin read other = byCall read (λ p. other) (λ m space. other) (λ q. other)
 
 abbrev pub ofMessage : {A : Type 0} → (List ℕ → ℕ → A) → A → Call → A
-ofMessage read other = byCall (λ p f room. other) (λ p. other) read (λ q. other)
+ofMessage read other = byCall (λ p f space. other) (λ p. other) read (λ q. other)

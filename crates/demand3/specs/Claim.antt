@@ -15,7 +15,7 @@ use Rattle.tables.specs.Tables.{tablesOk}
 use Rattle.sums.specs.Sums.{sumTo, sumBy}
 use Rattle.card.specs.Cards.{Card}
 use Rattle.card.specs.Outcome.{Outcome}
-use Rattle.demand3.specs.Reads.{At, Order, ill, add, delete, deleteAll, orderOf, commandsIn, kindIn, resultIn, tlvsIn, portIn, listed, rateOf, isWhite, NoneNames}
+use Rattle.demand3.specs.Reads.{At, Directive, malformed, add, delete, deleteAll, directiveOf, commandsIn, kindIn, resultIn, tlvsIn, portIn, listed, rateOf, isWhite, NoneIsAbout}
 use Rattle.demand3.specs.Calls.{Tables, Call, Build, cardAfter, history}
 use Rattle.demand3.specs.Calls.Call.{portUp, setDelegation, join, message}
 use Rattle.demand3.specs.Ledger.{Held, Line, Ledger, write, holds, actedIn, acts, actsAll, opened, ledgerFrom}
@@ -63,8 +63,8 @@ pub record Wanted (t : Tables) (l : Ledger) (p : ℕ) (f : Flow) : Type 0 where
 
 -- ---- an Add that is reached, told by the message and the ledger alone
 -- a command succeeds
-unfoldable pub Succeeds : Tables → Ledger → ℕ → Order → Type 0
-Succeeds t l p (ill code) = ⊥
+unfoldable pub Succeeds : Tables → Ledger → ℕ → Directive → Type 0
+Succeeds t l p (malformed code) = ⊥
 Succeeds t l p (add f accounting) = (listed t f ≡ true) × ((holds f (l p .flows) ≡ true) ⊎ Starts t (t .addCac) l p f)
 Succeeds t l p (delete f) = holds f (l p .flows) ≡ true
 Succeeds t l p deleteAll = Unit {0}
@@ -72,11 +72,11 @@ Succeeds t l p deleteAll = Unit {0}
 -- each of some commands succeeds, where x is port p's line before them
 unfoldable pub AllSucceed : Tables → Ledger → ℕ → Line → List (List ℕ) → Type 0
 AllSucceed t l p x [] = Unit {0}
-AllSucceed t l p x (c ∷ cs) = Succeeds t (write l p x) p (orderOf c) × AllSucceed t l p (acts t x (orderOf c)) cs
+AllSucceed t l p x (c ∷ cs) = Succeeds t (write l p x) p (directiveOf c) × AllSucceed t l p (acts t x (directiveOf c)) cs
 
--- the ledger behind some commands on port p
-abbrev pub behind : Tables → Ledger → ℕ → List (List ℕ) → Ledger
-behind t l p cs = write l p (actsAll t (l p) cs)
+-- the ledger after some commands on port p
+abbrev pub ledgerAfter : Tables → Ledger → ℕ → List (List ℕ) → Ledger
+ledgerAfter t l p cs = write l p (actsAll t (l p) cs)
 
 -- m is a request of this type for port p: usable, its lengths and depth sound, with one Target that has one circuit id
 pub record Sound (t : Tables) (m : List ℕ) (kind p : ℕ) : Type 0 where
@@ -95,9 +95,9 @@ pub record Reaches (t : Tables) (l : Ledger) (m : List ℕ) (p : ℕ) (f : Flow)
   pub here : List ℕ
   pub commands : commandsIn (drop 16 m) ≡ before ++ here ∷ after
   pub accounting : ℕ
-  pub is-add : orderOf here ≡ add f accounting
+  pub is-add : directiveOf here ≡ add f accounting
   pub succeed : AllSucceed t l p (l p) before
-  pub wanted : Wanted t (behind t l p before) p f
+  pub wanted : Wanted t (ledgerAfter t l p before) p f
 
 -- command number n of m acted
 abbrev pub Acted : Outcome → List ℕ → ℕ → Type 0
@@ -125,14 +125,14 @@ pub record Demand3 (b : Build) (t : Tables) (card : Card) (l : Ledger) : Type 0 
   pub ups : (p : ℕ) → (b .outcome t card (portUp p) .number ≡ 0) ↔ (p < t .ports)
   pub sets : (p amount : ℕ) → p < t .ports → (b .outcome t card (setDelegation p amount) .number ≡ 0) ↔ (charges t (l p) ≤ amount)
   -- a white-listed join starts exactly when the rule says so
-  pub joins : (p : ℕ) (f : Flow) (room : ℕ) → Wanted t l p f → isWhite t f → 4608 ≤ room
-      → ((b .outcome t card (join p f room) .number ≡ 0) ↔ Starts t (t .whiteCac) l p f)
-      × ((b .active t (b .outcome t card (join p f room) .card) p f ≡ true) ↔ Starts t (t .whiteCac) l p f)
+  pub joins : (p : ℕ) (f : Flow) (space : ℕ) → Wanted t l p f → isWhite t f → 4608 ≤ space
+      → ((b .outcome t card (join p f space) .number ≡ 0) ↔ Starts t (t .whiteCac) l p f)
+      × ((b .active t (b .outcome t card (join p f space) .card) p f ≡ true) ↔ Starts t (t .whiteCac) l p f)
   -- and so does an Add that is reached, whatever follows it: it acts, and as the last command leaves the flow active
-  pub adds : (m : List ℕ) (room p : ℕ) (f : Flow) (before after : List (List ℕ)) → Reaches t l m p f before after → 4608 ≤ room
-      → Acted (b .outcome t card (message m room)) m (suc (length before)) ↔ Starts t (t .addCac) (behind t l p before) p f
-  pub last-add : (m : List ℕ) (room p : ℕ) (f : Flow) (before : List (List ℕ)) → Reaches t l m p f before [] → 4608 ≤ room
-      → (b .active t (b .outcome t card (message m room) .card) p f ≡ true) ↔ Starts t (t .addCac) (behind t l p before) p f
+  pub adds : (m : List ℕ) (space p : ℕ) (f : Flow) (before after : List (List ℕ)) → Reaches t l m p f before after → 4608 ≤ space
+      → Acted (b .outcome t card (message m space)) m (suc (length before)) ↔ Starts t (t .addCac) (ledgerAfter t l p before) p f
+  pub last-add : (m : List ℕ) (space p : ℕ) (f : Flow) (before : List (List ℕ)) → Reaches t l m p f before [] → 4608 ≤ space
+      → (b .active t (b .outcome t card (message m space) .card) p f ≡ true) ↔ Starts t (t .addCac) (ledgerAfter t l p before) p f
 
 -- what a start takes
 abbrev pub takes : Tables → Bool
@@ -145,5 +145,5 @@ pub record Claim (b : Build) : Type 0 where
   pub holds-after : (t : Tables) (first : ℕ) → b .start t first .number ≡ 0 → (calls : List Call)
       → Demand3 b t (cardAfter b t (b .start t first .card) calls) (ledgerFrom t opened (history b t (b .start t first .card) calls))
   -- "Whatever the calls for other ports do": calls that are about other ports leave port p's line as it is
-  pub others-keep : (t : Tables) (first : ℕ) → b .start t first .number ≡ 0 → (xs ys : List Call) (p : ℕ) → NoneNames t ys p
+  pub others-keep : (t : Tables) (first : ℕ) → b .start t first .number ≡ 0 → (xs ys : List Call) (p : ℕ) → NoneIsAbout t ys p
       → ledgerFrom t opened (history b t (b .start t first .card) (xs ++ ys)) p ≡ ledgerFrom t opened (history b t (b .start t first .card) xs) p

@@ -16,9 +16,9 @@ use Rattle.rows.specs.declared.Found.the-variants.{At}
 use Rattle.card.specs.Cards.{Card}
 use Rattle.demand3.specs.Calls.{Tables, Call, Build, ours, outcomeOf, startedOf, cardAfter, history, byCall}
 use Rattle.demand3.specs.Calls.Call.{portDown, setDelegation, join, message}
-use Rattle.demand3.specs.Reads.{kindIn, resultIn, portIn, rateOf, isWhite, NoneNames}
+use Rattle.demand3.specs.Reads.{kindIn, resultIn, portIn, rateOf, isWhite, NoneIsAbout}
 use Rattle.demand3.specs.Ledger.{Ledger, opened, ledgerFrom}
-use Rattle.demand3.specs.Claim.{charges, Wanted, Sound, Reaches, behind, Acted, Claim}
+use Rattle.demand3.specs.Claim.{charges, Wanted, Sound, Reaches, ledgerAfter, Acted, Claim}
 
 -- card and ledger after a list of calls from a start, by any build; and by ours
 abbrev pub cardBy : Build → Tables → ℕ → List Call → Card
@@ -27,8 +27,8 @@ cardBy b t first calls = cardAfter b t (b .start t first .card) calls
 abbrev pub linesBy : Build → Tables → ℕ → List Call → Ledger
 linesBy b t first calls = ledgerFrom t opened (history b t (b .start t first .card) calls)
 
-abbrev pub cardOf : Tables → ℕ → List Call → Card
-cardOf t first calls = cardBy ours t first calls
+abbrev pub cardFrom : Tables → ℕ → List Call → Card
+cardFrom t first calls = cardBy ours t first calls
 
 abbrev pub linesOf : Tables → ℕ → List Call → Ledger
 linesOf t first calls = linesBy ours t first calls
@@ -38,29 +38,29 @@ abbrev pub Fits : Tables → Ledger → ℕ → Flow → Type 0
 Fits t l p f = charges t (l p) + rateOf t f ≤ l p .delegation
 
 -- "Whatever the calls for other ports do, they cannot take the first four": calls that name other ports leave the port's line as it is,
--- and behind them, with under 4 flows and a rate that fits, a white-listed join and an Add that is reached start
+-- and after them, with under 4 flows and a rate that fits, a white-listed join and an Add that is reached start
 pub record FirstFour (b : Build) (t : Tables) (first : ℕ) (xs ys : List Call) (p : ℕ) : Type 0 where
   pub line : linesBy b t first (xs ++ ys) p ≡ linesBy b t first xs p
-  pub join-starts : (f : Flow) (room : ℕ) → length (linesBy b t first xs p .flows) < 4 → Fits t (linesBy b t first xs) p f
-      → Wanted t (linesBy b t first xs) p f → isWhite t f → 4608 ≤ room
-      → b .outcome t (cardBy b t first (xs ++ ys)) (join p f room) .number ≡ 0
-  pub add-starts : (m : List ℕ) (room : ℕ) (f : Flow) (before after : List (List ℕ)) → Reaches t (linesBy b t first (xs ++ ys)) m p f before after
-      → length (behind t (linesBy b t first (xs ++ ys)) p before p .flows) < 4 → Fits t (behind t (linesBy b t first (xs ++ ys)) p before) p f
-      → 4608 ≤ room → Acted (b .outcome t (cardBy b t first (xs ++ ys)) (message m room)) m (suc (length before))
+  pub join-starts : (f : Flow) (space : ℕ) → length (linesBy b t first xs p .flows) < 4 → Fits t (linesBy b t first xs) p f
+      → Wanted t (linesBy b t first xs) p f → isWhite t f → 4608 ≤ space
+      → b .outcome t (cardBy b t first (xs ++ ys)) (join p f space) .number ≡ 0
+  pub add-starts : (m : List ℕ) (space : ℕ) (f : Flow) (before after : List (List ℕ)) → Reaches t (linesBy b t first (xs ++ ys)) m p f before after
+      → length (ledgerAfter t (linesBy b t first (xs ++ ys)) p before p .flows) < 4 → Fits t (ledgerAfter t (linesBy b t first (xs ++ ys)) p before) p f
+      → 4608 ≤ space → Acted (b .outcome t (cardBy b t first (xs ++ ys)) (message m space)) m (suc (length before))
 
 -- on this card no Bandwidth Transfer (147) for port p is taken
 abbrev pub TakesNone : Tables → Card → ℕ → Type 0
-TakesNone t card p = (m : List ℕ) (room : ℕ) → kindIn m ≡ 147 → portIn t m ≡ At p → outcomeOf t card (message m room) .number ≡ 0 → ⊥
+TakesNone t card p = (m : List ℕ) (space : ℕ) → kindIn m ≡ 147 → portIn t m ≡ At p → outcomeOf t card (message m space) .number ≡ 0 → ⊥
 
 -- the host asks for port p
 unfoldable pub Asks : Call → ℕ → Type 0
-Asks x p = byCall (λ q f room. ⊥) (λ q. q ≡ p) (λ m room. ⊥) (λ q. ⊥) x
+Asks x p = byCall (λ q f space. ⊥) (λ q. q ≡ p) (λ m space. ⊥) (λ q. ⊥) x
 
 unfoldable pub NoneAsks : List Call → ℕ → Type 0
 NoneAsks [] p = Unit {0}
 NoneAsks (y ∷ ys) p = (Asks y p → ⊥) × NoneAsks ys p
 
--- nor behind any calls, port up among them, until the host asks for port p
+-- nor after any calls, port up among them, until the host asks for port p
 abbrev pub NoneUntilAsked : Tables → Card → ℕ → Type 0
 NoneUntilAsked t card p = (ys : List Call) → NoneAsks ys p → TakesNone t (cardAfter ours t card ys) p
 
@@ -75,7 +75,7 @@ listReply t m p fs = messageOf (replyHeader (headerIn m) 149 3 0) (targetOf (idA
 pub record Corollaries : Type 0 where
   -- of every build that meets the claim, and so of ours
   pub first-four : (b : Build) → Claim b → (t : Tables) (first : ℕ) → b .start t first .number ≡ 0 → (xs ys : List Call) (p : ℕ)
-      → NoneNames t ys p → FirstFour b t first xs ys p
+      → NoneIsAbout t ys p → FirstFour b t first xs ys p
   -- a refused call, any number but 0 and 2, changes nothing and writes nothing, on any card
   pub refused : (t : Tables) (card : Card) (x : Call) → (outcomeOf t card x .number ≡ 0 → ⊥) → (outcomeOf t card x .number ≡ 2 → ⊥)
       → (outcomeOf t card x .card ≡ card) × (outcomeOf t card x .reply ≡ [])
@@ -83,19 +83,19 @@ pub record Corollaries : Type 0 where
   pub fresh-takes-none : (t : Tables) (first : ℕ) → startedOf t first .number ≡ 0 → (p : ℕ) → NoneUntilAsked t (startedOf t first .card) p
   -- after set delegation, port down or a successful 146 no earlier request can be answered, then or later
   pub closed-by-host : (t : Tables) (first : ℕ) → startedOf t first .number ≡ 0 → (xs : List Call) (p amount : ℕ)
-      → outcomeOf t (cardOf t first xs) (setDelegation p amount) .number ≡ 0
-      → NoneUntilAsked t (outcomeOf t (cardOf t first xs) (setDelegation p amount) .card) p
+      → outcomeOf t (cardFrom t first xs) (setDelegation p amount) .number ≡ 0
+      → NoneUntilAsked t (outcomeOf t (cardFrom t first xs) (setDelegation p amount) .card) p
   pub closed-by-down : (t : Tables) (first : ℕ) → startedOf t first .number ≡ 0 → (xs : List Call) (p : ℕ)
-      → outcomeOf t (cardOf t first xs) (portDown p) .number ≡ 0 → NoneUntilAsked t (outcomeOf t (cardOf t first xs) (portDown p) .card) p
-  pub closed-by-146 : (t : Tables) (first : ℕ) → startedOf t first .number ≡ 0 → (xs : List Call) (m : List ℕ) (room p : ℕ)
-      → kindIn m ≡ 146 → portIn t m ≡ At p → kindIn (outcomeOf t (cardOf t first xs) (message m room) .reply) ≡ 147
-      → resultIn (outcomeOf t (cardOf t first xs) (message m room) .reply) ≡ 3
-      → NoneUntilAsked t (outcomeOf t (cardOf t first xs) (message m room) .card) p
+      → outcomeOf t (cardFrom t first xs) (portDown p) .number ≡ 0 → NoneUntilAsked t (outcomeOf t (cardFrom t first xs) (portDown p) .card) p
+  pub closed-by-146 : (t : Tables) (first : ℕ) → startedOf t first .number ≡ 0 → (xs : List Call) (m : List ℕ) (space p : ℕ)
+      → kindIn m ≡ 146 → portIn t m ≡ At p → kindIn (outcomeOf t (cardFrom t first xs) (message m space) .reply) ≡ 147
+      → resultIn (outcomeOf t (cardFrom t first xs) (message m space) .reply) ≡ 3
+      → NoneUntilAsked t (outcomeOf t (cardFrom t first xs) (message m space) .card) p
   -- the delegation changes by set delegation, a 146 or a taken 147 alone
   pub delegation-kept : (t : Tables) (first : ℕ) → startedOf t first .number ≡ 0 → (xs : List Call) (x : Call) (p : ℕ) → p < t .ports
-      → ((amount : ℕ) → x ≡ setDelegation p amount → ⊥) → ((m : List ℕ) (room : ℕ) → x ≡ message m room → Moves m → ⊥)
-      → ours .delegation (outcomeOf t (cardOf t first xs) x .card) p ≡ ours .delegation (cardOf t first xs) p
+      → ((amount : ℕ) → x ≡ setDelegation p amount → ⊥) → ((m : List ℕ) (space : ℕ) → x ≡ message m space → Moves m → ⊥)
+      → ours .delegation (outcomeOf t (cardFrom t first xs) x .card) p ≡ ours .delegation (cardFrom t first xs) p
   -- a 149 for a port that is up is answered with the list of its flows, which the claim says are the ledger's
-  pub flows-answered : (t : Tables) (first : ℕ) → startedOf t first .number ≡ 0 → (xs : List Call) (m : List ℕ) (room p : ℕ) → Sound t m 149 p
-      → resultIn m ≡ 2 → linesOf t first xs p .isUp ≡ true → 4608 ≤ room
-      → outcomeOf t (cardOf t first xs) (message m room) .reply ≡ listReply t m p (ours .flows t (cardOf t first xs) p)
+  pub flows-answered : (t : Tables) (first : ℕ) → startedOf t first .number ≡ 0 → (xs : List Call) (m : List ℕ) (space p : ℕ) → Sound t m 149 p
+      → resultIn m ≡ 2 → linesOf t first xs p .isUp ≡ true → 4608 ≤ space
+      → outcomeOf t (cardFrom t first xs) (message m space) .reply ≡ listReply t m p (ours .flows t (cardFrom t first xs) p)

@@ -9,7 +9,7 @@ use Rattle.flows.specs.declared.Flow.{Flow}
 use Rattle.flows.specs.Flows.{sameFlow}
 use Rattle.items.specs.Items.{countOf, firstOf}
 use Rattle.fields.specs.Fields.{sequenceIn}
-use Rattle.demand3.specs.Reads.{Found, At, Nothing, Order, ill, add, delete, deleteAll, orderOf, commandsIn, kindIn, resultIn, portIn, amountIn, enclosedIn}
+use Rattle.demand3.specs.Reads.{Found, At, Nothing, Directive, malformed, add, delete, deleteAll, directiveOf, commandsIn, kindIn, resultIn, portIn, amountIn, enclosedIn}
 use Rattle.demand3.specs.Calls.{Tables, Call, Seen}
 use Rattle.demand3.specs.Calls.Call.{portUp, portDown, setDelegation, join, leave, ask, message}
 
@@ -65,15 +65,15 @@ actedIn reply cs =
     cs
 
 -- a command that acts: "Add on inactive flows only"
-unfoldable pub acts : Tables → Line → Order → Line
-acts t x (ill code) = x
+unfoldable pub acts : Tables → Line → Directive → Line
+acts t x (malformed code) = x
 acts t x (add f accounting) = cond (holds f (x .flows)) x (begins x f (t .addCac))
 acts t x (delete f) = withFlows x (without f (x .flows))
 acts t x deleteAll = withFlows x []
 
 unfoldable pub actsAll : Tables → Line → List (List ℕ) → Line
 actsAll t x [] = x
-actsAll t x (c ∷ cs) = actsAll t (acts t x (orderOf c)) cs
+actsAll t x (c ∷ cs) = actsAll t (acts t x (directiveOf c)) cs
 
 -- the line of a port that is found is rewritten
 unfoldable pub writeAt : Ledger → Found → (Line → Line) → Ledger
@@ -94,10 +94,10 @@ unfoldable pub entry : Tables → Ledger → Call → List ℕ → Ledger
 entry t l (portUp p) reply = write l p (record { isUp = true; delegation = l p .delegation; flows = l p .flows })
 entry t l (portDown p) reply = write l p (record { isUp = false; delegation = l p .delegation; flows = [] })
 entry t l (setDelegation p amount) reply = write l p (withDelegation (l p) amount)
-entry t l (join p f room) reply = write l p (begins (l p) f (t .whiteCac))
+entry t l (join p f space) reply = write l p (begins (l p) f (t .whiteCac))
 entry t l (leave p f) reply = write l p (withFlows (l p) (without f (l p .flows)))
-entry t l (ask p required preferred room) reply = l
-entry t l (message m room) reply = messageEntry t l m reply
+entry t l (ask p required preferred space) reply = l
+entry t l (message m space) reply = messageEntry t l m reply
 
 -- "Only number 0 changes it"
 unfoldable pub entered : Tables → Ledger → Seen → Ledger

@@ -20,8 +20,8 @@ use Rattle.demand3.specs.Calls.{Tables, Call, byCall}
 pub use Rattle.rows.specs.declared.Found.{Found}
 pub use Rattle.rows.specs.declared.Found.the-variants.{At, Nothing}
 pub use Rattle.control.specs.Control.{commandsIn}
-pub use Rattle.commands.specs.Orders.{Order, orderOf}
-pub use Rattle.commands.specs.Orders.Order.{ill, add, delete, deleteAll}
+pub use Rattle.commands.specs.Directives.{Directive, directiveOf}
+pub use Rattle.commands.specs.Directives.Directive.{malformed, add, delete, deleteAll}
 
 -- ---- a message or a reply
 
@@ -68,10 +68,10 @@ isWhite t f = listDecision (t .entries) (t .entryCount) f ≡ White
 -- ---- a call
 
 -- it is about port p: a host's call for p, a message whose Target names p
-unfoldable pub Names : Tables → Call → ℕ → Type 0
-Names t x p = byCall (λ q f room. q ≡ p) (λ q. q ≡ p) (λ m room. portIn t m ≡ At p) (λ q. q ≡ At p) x
+unfoldable pub IsAbout : Tables → Call → ℕ → Type 0
+IsAbout t x p = byCall (λ q f space. q ≡ p) (λ q. q ≡ p) (λ m space. portIn t m ≡ At p) (λ q. q ≡ At p) x
 
 -- none of some calls is about it
-unfoldable pub NoneNames : Tables → List Call → ℕ → Type 0
-NoneNames t [] p = Unit {0}
-NoneNames t (x ∷ xs) p = (Names t x p → ⊥) × NoneNames t xs p
+unfoldable pub NoneIsAbout : Tables → List Call → ℕ → Type 0
+NoneIsAbout t [] p = Unit {0}
+NoneIsAbout t (x ∷ xs) p = (IsAbout t x p → ⊥) × NoneIsAbout t xs p

@@ -101,7 +101,7 @@ fn flow(group: u32, source: u32) -> Flow {
     }
 }
 
-// The name and the space behind it, the number, and the reply if there is one.
+// The name and the space after it, the number, and the reply if there is one.
 fn tell(name: &[u8], done: Returned, reply: &[u8]) {
     io::write_all(1, name);
     io::print_decimal(1, done.number as u64);

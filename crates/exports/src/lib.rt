@@ -9,7 +9,7 @@ ghost use mathlib.Core.Path.{_≡_};
 ghost use mathlib.Core.List.{List};
 ghost use Prim.Native.Nat.{ℕ};
 ghost use Rattle.card.specs.Cards.{Areas, noAreas, cardOf};
-ghost use Rattle.pool.specs.Pool.{extrasOf, listed};
+ghost use Rattle.pool.specs.Pool.{extrasOf, asRows};
 ghost use Rattle.card.specs.Start.{startOf, StartGives};
 ghost use Rattle.card.specs.Figures.{upOf, delegationOf, committedAt};
 ghost use Rattle.listing.specs.Listing.{flowsAt, activeAt};
@@ -122,7 +122,7 @@ pub extern "C" fn ancp_card_committed_in(core: Core, channels: &[u32; 2816], p: 
 
 #[no_mangle]
 pub extern "C" fn ancp_card_flows_in(core: Core, channels: &[u32; 2816], p: usize) -> Rows
-    ensures { λ r. ⌜ ((areas : Areas) → r ≡ listed (flowsAt (now (channels .entry)) (cardOf core areas) p)) ⌝ }
+    ensures { λ r. ⌜ ((areas : Areas) → r ≡ asRows (flowsAt (now (channels .entry)) (cardOf core areas) p)) ⌝ }
 {
     listing::flows_of(core, channels, p)
 }

@@ -26,7 +26,7 @@ flowIn c =
       agrees = lengthAgrees (be8 c 1) (be16 c 2) (length c);
     }
 
--- the group, and the sources one behind the other
+-- the group, and the sources one after the other
 abbrev pub groupIn : List ℕ → List ℕ
 groupIn c = take (widthOf (be8 c 1)) (drop 4 c)
 

@@ -23,12 +23,12 @@ use Rattle.flows.specs.declared.Flow.{Flow}
 use Rattle.flows.proofs.Same.{flow-eq}
 use Rattle.flows.proofs.Good.{Good}
 use Rattle.fields.specs.Flow.{widthOf, lengthAgrees}
-use Rattle.flow_octets.specs.FlowOctets.{typeOk, flowFormed, wordIn, addressIn, flowNamed, countOf, sourceWords, flowTlv, flowOctets, FlowBack}
+use Rattle.flow_octets.specs.FlowOctets.{typeOk, flowFormed, wordIn, addressIn, flowNamed, sourceCount, sourceWords, flowTlv, flowOctets, FlowBack}
 use Rattle.flow_octets.proofs.FlowOctets.{width-le, width-octets, one-more, length-first}
 
--- ---- numbers that stand behind other octets
-be32-behind : (p q : List ℕ) (k : ℕ) → be32 (p ++ q) (length p + k) ≡ be32 q k
-be32-behind p q k =
+-- ---- numbers that stand after other octets
+be32-after : (p q : List ℕ) (k : ℕ) → be32 (p ++ q) (length p + k) ≡ be32 q k
+be32-after p q k =
     simp (add-assoc (length p) k 1, add-assoc (length p) k 2, add-assoc (length p) k 3, getD-append-add)
 
 -- the head
@@ -59,7 +59,7 @@ octets-back [] r i h = absurd (omega arith)
 octets-back (x ∷ xs) r zero h = ap (λ (l : List ℕ). be32 l 0) (append-assoc (oct32 x) (octetsOf xs) r) ∙ back32 x (octetsOf xs ++ r)
 octets-back (x ∷ xs) r (suc i) h =
     let e : 4 * suc i ≡ length (oct32 x) + 4 * i = omega (arith, length-oct32 x) in
-    ap₂ be32 (append-assoc (oct32 x) (octetsOf xs) r) e ∙ be32-behind (oct32 x) (octetsOf xs ++ r) (4 * i) ∙ octets-back xs r i (omega arith)
+    ap₂ be32 (append-assoc (oct32 x) (octetsOf xs) r) e ∙ be32-after (oct32 x) (octetsOf xs ++ r) (4 * i) ∙ octets-back xs r i (omega arith)
 
 zeros-at : (xs : List ℕ) (k : ℕ) → zeros xs ≡ true → getD xs k 0 ≡ 0
 unfolding zeros
@@ -75,7 +75,7 @@ four (x ∷ y ∷ z ∷ []) e = absurd (omega arith)
 four (x ∷ y ∷ z ∷ w ∷ []) e = refl
 four (x ∷ y ∷ z ∷ w ∷ v ∷ a) e = absurd (omega arith)
 
--- the first w words of an address stand behind p; the others are zero
+-- the first w words of an address stand after p; the others are zero
 module _ (p a r : List ℕ) (at w : ℕ) (ep : length p ≡ at) (hw : w ≤ 4) (la : length a ≡ 4) (hz : zeroFrom w a ≡ true) where
   word-back : (i : ℕ) → wordIn (p ++ (octetsOf (take w a) ++ r)) at w i ≡ getD a i 0
   unfolding wordIn
@@ -85,7 +85,7 @@ module _ (p a r : List ℕ) (at w : ℕ) (ep : length p ≡ at) (hw : w ≤ 4) (
       go true t =
           let h = ltb-true i w t in
           ap (λ (n : ℕ). be32 (p ++ (octetsOf (take w a) ++ r)) (n + 4 * i)) (sym ep)
-          ∙ be32-behind p (octetsOf (take w a) ++ r) (4 * i)
+          ∙ be32-after p (octetsOf (take w a) ++ r) (4 * i)
           ∙ octets-back (take w a) r i (omega (arith, length-take-le w a (omega arith)))
           ∙ getD-take w a i 0 h
       go false t =
@@ -104,20 +104,20 @@ zero-or-one (suc (suc n)) h = absurd (omega arith)
 
 -- what is written of a source, and what is read by the count: nothing where there is none, else as many words as the family has
 pub record Counted (f : Flow) : Type 0 where
-  pub count : countOf (f .sourced) ≡ f .sourced
+  pub count : sourceCount (f .sourced) ≡ f .sourced
   pub kind : typeOk (f .sourced + 1) (f .sourced) ≡ true
   pub words : width (f .family) * f .sourced ≡ sourceWords (f .family) (f .sourced)
   pub most : sourceWords (f .family) (f .sourced) ≤ 4
   pub rest : zeroFrom (sourceWords (f .family) (f .sourced)) (f .source) ≡ true
 
 counted : (f : Flow) → Good f → Counted f
-unfolding countOf sourceWords typeOk inWidth
+unfolding sourceCount sourceWords typeOk inWidth
 counted f good = ⊎-elim none some (zero-or-one (f .sourced) (good .mark))
   where
     none : f .sourced ≡ 0 → Counted f
     none e =
         record {
-          count = ap countOf e ∙ sym e;
+          count = ap sourceCount e ∙ sym e;
           kind = ap (λ (n : ℕ). typeOk (n + 1) n) e;
           words = ap (λ (n : ℕ). width (f .family) * n) e ∙ mul-zero (width (f .family)) ∙ sym (ap (sourceWords (f .family)) e);
           most = omega (arith, ap (sourceWords (f .family)) e);
@@ -127,7 +127,7 @@ counted f good = ⊎-elim none some (zero-or-one (f .sourced) (good .mark))
     some : f .sourced ≡ 1 → Counted f
     some e =
         record {
-          count = ap countOf e ∙ sym e;
+          count = ap sourceCount e ∙ sym e;
           kind = ap (λ (n : ℕ). typeOk (n + 1) n) e;
           words = ap (λ (n : ℕ). width (f .family) * n) e ∙ mul-one (width (f .family)) ∙ sym (ap (sourceWords (f .family)) e);
           most = omega (arith, ap (sourceWords (f .family)) e, width-le (f .family));

@@ -1,6 +1,6 @@
 -- What a well-formed content has, and the octets of words.
 --     formed                      the length and count of a well-formed content
---     octets-turn                 one turn of a loop that writes words one behind the other
+--     octets-turn                 one turn of a loop that writes words one after the other
 --     length-octets               how many octets there are
 -- Assumes nothing.
 use Prim.Native.Nat.{ℕ, _+_, _-_, _*_, _%_, _≤_, _<_}
@@ -24,7 +24,7 @@ use Rattle.fields.specs.Flow.{widthOf, lengthAgrees}
 use Rattle.flows.specs.Flows.{width}
 use Rattle.flows.specs.declared.Flow.{Flow}
 use Rattle.writers.specs.Tlvs.{flowOf}
-use Rattle.flow_octets.specs.FlowOctets.{typeOk, flowFormed, countOf, sourceWords, flowTlv}
+use Rattle.flow_octets.specs.FlowOctets.{typeOk, flowFormed, sourceCount, sourceWords, flowTlv}
 
 -- ---- products of small numbers
 pub small : (w n : ℕ) → w ≤ 4 → n ≤ 65536 → w * n ≤ 262144
@@ -112,9 +112,9 @@ length-first i a h = length-octets (take i a) ∙ ap (λ (n : ℕ). 4 * n) (leng
 front : (w l : List ℕ) {x : List ℕ} (n : ℕ) → x ≡ over w l → n ≡ length w → take (n - 0) x ≡ w
 front w l {x} n e h = ap (λ (k : ℕ). take k x) (sub-zero n) ∙ over-front w l n e h
 
-module _ (f : Flow) {count words behind : ℕ} (ec : count ≡ countOf (f .sourced)) (ew : words ≡ width (f .family)) (eb : behind ≡ sourceWords (f .family) (f .sourced))
+module _ (f : Flow) {count words after : ℕ} (ec : count ≡ sourceCount (f .sourced)) (ew : words ≡ width (f .family)) (eb : after ≡ sourceWords (f .family) (f .sourced))
     (l : List ℕ) {g s : List ℕ} {n m : ℕ}
-    (wg : Wrote (octetsOf (take words (f .group))) n l g) (ws : Wrote (octetsOf (take behind (f .source))) m l s) where
+    (wg : Wrote (octetsOf (take words (f .group))) n l g) (ws : Wrote (octetsOf (take after (f .source))) m l s) where
   pub tlv-is : flowOf (count + 1) (f .family % 256) count (take (n - 0) g) (take (m - 0) s) ≡ flowTlv f
   unfolding flowTlv
   tlv-is =

@@ -29,7 +29,7 @@ wordIn c at words i = cond (ltb i words) (be32 c (at + 4 * i)) 0
 abbrev pub addressIn : List ℕ → ℕ → ℕ → List ℕ
 addressIn c at words = wordIn c at words 0 ∷ wordIn c at words 1 ∷ wordIn c at words 2 ∷ wordIn c at words 3 ∷ []
 
--- the flow that a well-formed content names: the group, and behind it the source if the count is 1
+-- the flow that a well-formed content names: the group, and after it the source if the count is 1
 unfoldable pub flowNamed : List ℕ → Flow
 flowNamed c = record {
   family = be8 c 1;
@@ -41,8 +41,8 @@ flowNamed c = record {
 -- ---- written
 
 -- the source count: 1 where there is a source
-unfoldable pub countOf : ℕ → ℕ
-countOf sourced = cond (eqb sourced 0) 0 1
+unfoldable pub sourceCount : ℕ → ℕ
+sourceCount sourced = cond (eqb sourced 0) 0 1
 
 -- how many words its source has
 unfoldable pub sourceWords : ℕ → ℕ → ℕ
@@ -51,14 +51,14 @@ sourceWords family sourced = cond (eqb sourced 0) 0 (width family)
 -- a Multicast-Flow TLV for a flow; that of a good flow is well-formed and names it
 unfoldable pub flowTlv : Flow → List ℕ
 flowTlv f =
-    flowOf (countOf (f .sourced) + 1) (f .family % 256) (countOf (f .sourced))
+    flowOf (sourceCount (f .sourced) + 1) (f .family % 256) (sourceCount (f .sourced))
     (octetsOf (take (width (f .family)) (f .group)))
     (octetsOf (take (sourceWords (f .family) (f .sourced)) (f .source)))
 
 -- its content
 unfoldable pub flowOctets : Flow → List ℕ
 flowOctets f =
-    oct8 (countOf (f .sourced) + 1) ++ oct8 (f .family % 256) ++ oct16 (countOf (f .sourced))
+    oct8 (sourceCount (f .sourced) + 1) ++ oct8 (f .family % 256) ++ oct16 (sourceCount (f .sourced))
     ++ octetsOf (take (width (f .family)) (f .group))
     ++ octetsOf (take (sourceWords (f .family) (f .sourced)) (f .source))
 

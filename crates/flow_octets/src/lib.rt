@@ -6,7 +6,7 @@ ghost use lib.ListN.{length, take};
 ghost use Rattle.octets.specs.Writing.{Wrote};
 ghost use Rattle.flows.specs.Words.{octetsOf};
 ghost use Rattle.flows.specs.Flows.{goodFlow};
-ghost use Rattle.flow_octets.specs.FlowOctets.{typeOk, flowFormed, wordIn, addressIn, flowNamed, countOf, sourceWords, flowTlv, FlowBack};
+ghost use Rattle.flow_octets.specs.FlowOctets.{typeOk, flowFormed, wordIn, addressIn, flowNamed, sourceCount, sourceWords, flowTlv, FlowBack};
 use flows::Flow;
 use flows::known_family;
 use flows::width;
@@ -91,7 +91,7 @@ pub fn put_flow(buf: &mut [u8], f: Flow) -> usize
 {
     let group = f.group;
     let source = f.source;
-    let count = count_of(f.sourced);
+    let count = source_count(f.sourced);
     let mut g = [0u8; 16];
     let mut s = [0u8; 16];
     let a = put_words(&mut g, group, width(f.family));
@@ -106,8 +106,8 @@ pub fn put_flow(buf: &mut [u8], f: Flow) -> usize
     )
 }
 
-fn count_of(sourced: u32) -> u16
-    ensures { λ r. ⌜ r ≡ countOf sourced ⌝ }
+fn source_count(sourced: u32) -> u16
+    ensures { λ r. ⌜ r ≡ sourceCount sourced ⌝ }
     ensures { λ r. ⌜ r ≤ 1 ⌝ }
 {
     if sourced == 0 { 0 } else { 1 }
@@ -123,7 +123,7 @@ fn source_words(family: u32, sourced: u32) -> usize
     width(family)
 }
 
-// The first words of an address, each behind the one before it.
+// The first words of an address, each after the one before it.
 fn put_words(buf: &mut [u8], a: [u32; 4], words: usize) -> usize
     requires { ⌜ (words ≤ 4) × (16 ≤ length (now buf)) ⌝ }
     ensures { λ r. ⌜ r ≡ 4 * words ⌝ }

@@ -43,7 +43,7 @@ use Rattle.demand3.proofs.Steps.{port-set}
 use Rattle.demand3.proofs.Replies.{kind-back, kind-amount, target-port}
 use Rattle.demand3.proofs.Views.{Came, kept, notice, refused, ordered, reduced, queried, answered, came}
 use Rattle.demand3.proofs.Transfers.{at-eq}
-use Rattle.demand3.proofs.Ways.{NotBegun, other-type, Way, stays, replies, rises, falls, sets, closes, reduces, asks, beside, commanded, grey}
+use Rattle.demand3.proofs.Ways.{NotBegun, other-type, Way, stays, replies, rises, falls, sets, closes, reduces, asks, keepsPorts, commanded, grey}
 use Rattle.demand3.proofs.Each.{call-way, call-step}
 use Rattle.demand3.proofs.Counter.{InRange, call-range}
 use Rattle.grants.specs.Grants.{writtenFrom, transactionIn, IsRequest, NoRequest, LastRequest}
@@ -137,12 +137,12 @@ module _ (t : Tables) (taken : TablesTaken t) (p : ℕ) (below : p < 64) (card :
       let w : List ℕ = amountReply h 147 3 0 (idAt (t .ids) q) amount in
       let n : NotBegun w = other-type w (λ e. omega arith) (λ e. omega arith) (kind-amount h 147 3 0 (idAt (t .ids) q) amount) in
       changed w n q (λ y. delegated y amount) (shut w n (delegated (portAt card p) amount) refl)
-  way-open x o (asks q required preferred room is has up) = asked-open q required preferred (has-one q has)
-  way-open x o (beside card′ e n) = subst (λ (ps : List Port). After [] (getD ps p freshPort)) (sym e) (was [] silent)
+  way-open x o (asks q required preferred space is has up) = asked-open q required preferred (has-one q has)
+  way-open x o (keepsPorts card′ e n) = subst (λ (ps : List Port). After [] (getD ps p freshPort)) (sym e) (was [] silent)
   way-open x o (commanded h q w) =
       subst (λ (ps : List Port). After (controlled (t .ids) (t .channels) card h q w .reply) (getD ps p freshPort))
       (sym (commands-kept (λ c. c .ports) (λ c pool. refl) t card h q w)) (was _ (commands-silent t card h q w))
-  way-open x o (grey q f room e) = grey-open q f
+  way-open x o (grey q f space e) = grey-open q f
 
   call-open : (x : Call) → After (outcomeOf t card x .reply) (portAt (outcomeOf t card x .card) p)
   call-open x = way-open x (outcomeOf t card x) (call-way t card x)
@@ -227,6 +227,6 @@ module _ (t : Tables) (card : Card) (ports : card .head .«port_count» ≡ t .p
         number = open-at .1;
       }
 
-  pub taken-open : (room : ℕ) → outcomeOf t card (message m room) .number ≡ 0 → Opened t card m
+  pub taken-open : (space : ℕ) → outcomeOf t card (message m space) .number ≡ 0 → Opened t card m
   unfolding outcomeOf
-  taken-open room = came-open (receivedOf (t .ids) (t .channels) card m room) (came (t .ids) (t .channels) card m room)
+  taken-open space = came-open (receivedOf (t .ids) (t .channels) card m space) (came (t .ids) (t .channels) card m space)

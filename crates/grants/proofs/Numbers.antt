@@ -31,28 +31,28 @@ use Rattle.demand3.specs.Calls.{Tables, Call, ours, outcomeOf, cardAfter, histo
 use Rattle.demand3.specs.Reads.{kindIn}
 use Rattle.demand3.proofs.Replies.{kind-none, kind-back, kind-amount}
 use Rattle.demand3.proofs.Commands.{commands-tell}
-use Rattle.demand3.proofs.Ways.{NotBegun, other-type, Way, stays, replies, rises, falls, sets, closes, reduces, asks, beside, commanded, grey}
+use Rattle.demand3.proofs.Ways.{NotBegun, other-type, Way, stays, replies, rises, falls, sets, closes, reduces, asks, keepsPorts, commanded, grey}
 use Rattle.demand3.proofs.Each.{call-way}
 use Rattle.demand3.proofs.Counter.{commands-keep, InRange, call-range}
-use Rattle.grants.specs.Grants.{writtenFrom, transactionIn, begins, numbersOf, Stretch}
+use Rattle.grants.specs.Grants.{writtenFrom, transactionIn, begunKind, numbersOf, Stretch}
 
 -- ---- what is begun, and what is not
 pub silent : NotBegun []
 silent = other-type [] (λ e. omega arith) (λ e. omega arith) kind-none
 
 abbrev pub isBegun : List ℕ → Bool
-isBegun w = begins (kindIn w)
+isBegun w = begunKind (kindIn w)
 
 pub begun-145 : (w : List ℕ) → kindIn w ≡ 145 → isBegun w ≡ true
-unfolding begins
-begun-145 w e = ap begins e
+unfolding begunKind
+begun-145 w e = ap begunKind e
 
 pub begun-146 : (w : List ℕ) → kindIn w ≡ 146 → isBegun w ≡ true
-unfolding begins
-begun-146 w e = ap begins e
+unfolding begunKind
+begun-146 w e = ap begunKind e
 
 not-begun : (w : List ℕ) → NotBegun w → isBegun w ≡ false
-unfolding begins
+unfolding begunKind
 not-begun w n = rw (ne-eqb (kindIn w) 145 (n .0), ne-eqb (kindIn w) 146 (n .1))
 
 -- the transaction number of a message that the card begins
@@ -93,12 +93,12 @@ module _ (t : Tables) (card : Card) (range : InRange card) where
   way-numbers x o (closes p) = none silent refl
   way-numbers x o (reduces h p amount) =
       none (other-type _ (λ e. omega arith) (λ e. omega arith) (kind-amount h 147 3 0 (idAt (t .ids) p) amount)) refl
-  way-numbers x o (asks p required preferred room e h u) =
+  way-numbers x o (asks p required preferred space e h u) =
       let body : List ℕ = targetOf (idAt (t .ids) p) ++ requestOf required preferred in
       one (begun-146 _ (kind-back (beginHeader 146 (numberAt card)) body)) (number-back 146 (numberAt card) body (range .1)) refl
-  way-numbers x o (beside card′ e n) = none silent (ap (λ (c : Counter). c .number) n)
+  way-numbers x o (keepsPorts card′ e n) = none silent (ap (λ (c : Counter). c .number) n)
   way-numbers x o (commanded h p s) = none (commands-silent t card h p s) (commands-kept numberAt (λ c pool. refl) t card h p s)
-  way-numbers x o (grey p f room e) =
+  way-numbers x o (grey p f space e) =
       let body : List ℕ = targetOf (idAt (t .ids) p) ++ commandOf 1 0 (flowTlv f) in
       one (begun-145 _ (kind-back (beginHeader 145 (numberAt card)) body)) (number-back 145 (numberAt card) body (range .1)) refl
 

@@ -70,7 +70,7 @@ module _ (t : Tables) (card : Card) (l : Ledger) (a : Agree t card l) (p : ℕ) 
   taken-shut : (m : List ℕ) → portIn t m ≡ At p → (k : IsTaken t card m) → portAt (takenBy k) p .asking ≡ false
   unfolding outcomeOf
   taken-shut m port k =
-      came-shut m (k .kind) port (receivedOf (t .ids) (t .channels) card m (k .room)) (came (t .ids) (t .channels) card m (k .room)) (k .done)
+      came-shut m (k .kind) port (receivedOf (t .ids) (t .channels) card m (k .space)) (came (t .ids) (t .channels) card m (k .space)) (k .done)
 
 -- ---- and stays closed until the card writes another
 none-here : (t : Tables) (p : ℕ) (m : List ℕ) (before after : List (List ℕ)) → NoRequest t p (before ++ m ∷ after) → IsRequest t p m → ⊥
@@ -87,9 +87,9 @@ module _ (t : Tables) (tables : TablesTaken t) (card : Card) (l : Ledger) (a : A
   pub taken-once : (more : List Call) → NoRequest t p (writtenFrom t (takenBy k) more)
       → (n : List ℕ) → portIn t n ≡ At p → IsTaken t (cardAfter ours t (takenBy k) more) n → ⊥
   taken-once more none n names j =
-      let x : Call = message m (k .room) in
+      let x : Call = message m (k .space) in
       let b : Agree t (takenBy k) (entered t l (seen ours t card x)) = call-step t tables card l a x in
-      let o = taken-open t (cardAfter ours t (takenBy k) more) (calls-agree t tables more (takenBy k) _ b .ports) n (j .kind) (j .room) (j .done) in
+      let o = taken-open t (cardAfter ours t (takenBy k) more) (calls-agree t tables more (takenBy k) _ b .ports) n (j .kind) (j .space) (j .done) in
       let same : o .p ≡ p = at-eq (sym (o .port) ∙ names) in
       let below : p < 64 = subst (λ (i : ℕ). i < 64) same (o .below) in
       not-since t p (takenBy k) _ (writtenFrom t (takenBy k) more) (taken-shut t card l a p below m port k) none

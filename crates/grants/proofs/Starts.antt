@@ -16,7 +16,7 @@ use Rattle.numbers.proofs.Circle.{after-zero, after-add, after-range, after-apa
 use Rattle.demand3.specs.Calls.{Tables, Call, ours, startedOf, cardAfter}
 use Rattle.demand3.specs.Reads.{portIn}
 use Rattle.demand3.specs.Ledger.{opened}
-use Rattle.demand3.specs.Corollaries.{cardOf}
+use Rattle.demand3.specs.Corollaries.{cardFrom}
 use Rattle.demand3.proofs.Fresh.{agree-fresh, started-port}
 use Rattle.demand3.proofs.Calls.{calls-agree}
 use Rattle.demand3.proofs.Counter.{first-counter, first-range, counter-range}
@@ -32,12 +32,12 @@ module _ (t : Tables) (first : ℕ) (started : startedOf t first .number ≡ 0) 
   none-open p below n (open-since e k d) = absurd (false≢true (sym (ap (λ (y : Port). y .asking) (started-port t first started p below)) ∙ e))
   none-open p below n (last-in k) = k
 
-  last-of : (m : List ℕ) → IsTaken t (cardOf t first calls) m → OwnGrant t m (writtenOf t first calls)
+  last-of : (m : List ℕ) → IsTaken t (cardFrom t first calls) m → OwnGrant t m (writtenOf t first calls)
   last-of m k =
       let tables = agree-fresh t first started .0 in
       let agree = agree-fresh t first started .1 in
       let at-end = calls-agree t tables calls (startedOf t first .card) opened agree in
-      let o = taken-open t (cardOf t first calls) (at-end .ports) m (k .kind) (k .room) (k .done) in
+      let o = taken-open t (cardFrom t first calls) (at-end .ports) m (k .kind) (k .space) (k .done) in
       record {
         p = o .p;
         port = o .port;
@@ -45,11 +45,11 @@ module _ (t : Tables) (first : ℕ) (started : startedOf t first .number ≡ 0) 
             (none-open (o .p) (o .below) _ (calls-last t tables (o .p) (o .below) calls (startedOf t first .card) opened agree (first-range t first started) (o .is-open)));
       }
 
-  once-of : (p : ℕ) (m : List ℕ) → portIn t m ≡ At p → (k : IsTaken t (cardOf t first calls) m) → (more : List Call)
+  once-of : (p : ℕ) (m : List ℕ) → portIn t m ≡ At p → (k : IsTaken t (cardFrom t first calls) m) → (more : List Call)
       → NoRequest t p (writtenFrom t (takenBy k) more) → (n : List ℕ) → portIn t n ≡ At p → IsTaken t (cardAfter ours t (takenBy k) more) n → ⊥
   once-of p m port k =
       let s = agree-fresh t first started in
-      taken-once t (s .0) (cardOf t first calls) _ (calls-agree t (s .0) calls (startedOf t first .card) opened (s .1)) (counter-range t first started calls) p m port k
+      taken-once t (s .0) (cardFrom t first calls) _ (calls-agree t (s .0) calls (startedOf t first .card) opened (s .1)) (counter-range t first started calls) p m port k
 
   stretch-of : Stretch first (presentOf t first calls) (begunOf t first calls)
   stretch-of =
@@ -104,7 +104,7 @@ placed n (m ∷ ns) k =
 -- ---- two starts
 module _ (t u : Tables) (first second : ℕ) (one : startedOf t first .number ≡ 0) (two : startedOf u second .number ≡ 0) (xs ys : List Call) where
   apart-of : Disjoint (begunOf t first xs) (begunOf u second ys)
-      → (m : List ℕ) → Among (transactionIn m) (begunOf t first xs) → IsTaken u (cardOf u second ys) m → ⊥
+      → (m : List ℕ) → Among (transactionIn m) (begunOf t first xs) → IsTaken u (cardFrom u second ys) m → ⊥
   apart-of none m old k =
       let a = last-of u second two ys m k in
       none (transactionIn m) old (last-among u (a .p) (transactionIn m) (writtenOf u second ys) (a .last))

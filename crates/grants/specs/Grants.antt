@@ -14,7 +14,7 @@ use Rattle.numbers.specs.Numbers.{numberAfter}
 use Rattle.demand3.specs.Calls.{Tables, Call, Seen, ours, outcomeOf, startedOf, cardAfter, history}
 use Rattle.demand3.specs.Calls.Call.{message}
 use Rattle.demand3.specs.Reads.{kindIn, portIn}
-use Rattle.demand3.specs.Corollaries.{cardOf}
+use Rattle.demand3.specs.Corollaries.{cardFrom}
 
 -- ---- what a card wrote
 -- the octets that each call wrote, in order; none where it wrote nothing
@@ -29,13 +29,13 @@ unfoldable pub transactionIn : List ℕ → ℕ
 transactionIn m = headerIn m .transaction
 
 -- the types of the messages that a card begins: Admission Control (145), Bandwidth Reallocation Request (146)
-unfoldable pub begins : ℕ → Bool
-begins kind = eqb kind 145 || eqb kind 146
+unfoldable pub begunKind : ℕ → Bool
+begunKind kind = eqb kind 145 || eqb kind 146
 
 -- their transaction numbers, in order
 unfoldable pub numbersOf : List (List ℕ) → List ℕ
 numbersOf [] = []
-numbersOf (m ∷ ms) = cond (begins (kindIn m)) (transactionIn m ∷ numbersOf ms) (numbersOf ms)
+numbersOf (m ∷ ms) = cond (begunKind (kindIn m)) (transactionIn m ∷ numbersOf ms) (numbersOf ms)
 
 abbrev pub begunOf : Tables → ℕ → List Call → List ℕ
 begunOf t first calls = numbersOf (writtenOf t first calls)
@@ -83,7 +83,7 @@ Disjoint ns ms = (n : ℕ) → Among n ns → Among n ms → ⊥
 
 -- the number that the next message takes, after some calls from a start; a host reads it (`ancp_card_next_transaction`)
 abbrev pub presentOf : Tables → ℕ → List Call → ℕ
-presentOf t first calls = cardOf t first calls .head .counter .number
+presentOf t first calls = cardFrom t first calls .head .counter .number
 
 -- a second start lies k places after a first one that began n messages, past these, and with the m messages that it
 -- began itself the circle has not gone all the way round; k may count the numbers of starts between the two
@@ -96,12 +96,12 @@ pub record Moved (first second k n m : ℕ) : Type 0 where
 -- m is a Bandwidth Transfer (147), and the card takes it, for whichever port
 pub record IsTaken (t : Tables) (card : Card) (m : List ℕ) : Type 0 where
   pub kind : kindIn m ≡ 147
-  pub room : ℕ
-  pub done : outcomeOf t card (message m room) .number ≡ 0
+  pub space : ℕ
+  pub done : outcomeOf t card (message m space) .number ≡ 0
 
 -- the card after it
 abbrev pub takenBy : {t : Tables} {card : Card} {m : List ℕ} → IsTaken t card m → Card
-takenBy {t} {card} {m} k = outcomeOf t card (message m (k .room)) .card
+takenBy {t} {card} {m} k = outcomeOf t card (message m (k .space)) .card
 
 -- each for every list of calls from every start that is taken
 pub record Grants : Type 0 where
@@ -110,10 +110,10 @@ pub record Grants : Type 0 where
       → (1 ≤ presentOf t first calls) × (presentOf t first calls ≤ 16777215)
   -- a 147 that is taken has the transaction number of the last 146 that this card wrote for its port since this start
   pub last : (t : Tables) (first : ℕ) → startedOf t first .number ≡ 0 → (calls : List Call) (m : List ℕ)
-      → IsTaken t (cardOf t first calls) m → OwnGrant t m (writtenOf t first calls)
+      → IsTaken t (cardFrom t first calls) m → OwnGrant t m (writtenOf t first calls)
   -- after it no other is taken for this port, whatever is called, until the card has written another 146 for it
   pub once : (t : Tables) (first : ℕ) → startedOf t first .number ≡ 0 → (calls : List Call) (p : ℕ) (m : List ℕ)
-      → portIn t m ≡ At p → (k : IsTaken t (cardOf t first calls) m) → (more : List Call)
+      → portIn t m ≡ At p → (k : IsTaken t (cardFrom t first calls) m) → (more : List Call)
       → NoRequest t p (writtenFrom t (takenBy k) more) → (n : List ℕ) → portIn t n ≡ At p
       → IsTaken t (cardAfter ours t (takenBy k) more) n → ⊥
   -- the messages that a card began have the numbers from `first` on, one after the other, up to the present one
@@ -127,7 +127,7 @@ pub record Grants : Type 0 where
   -- be it with other tables, neither takes a grant for what the other began, also where its own request is open
   pub apart : (t u : Tables) (first second : ℕ) → startedOf t first .number ≡ 0 → startedOf u second .number ≡ 0
       → (xs ys : List Call) → Disjoint (begunOf t first xs) (begunOf u second ys)
-      → (m : List ℕ) → Among (transactionIn m) (begunOf t first xs) → IsTaken u (cardOf u second ys) m → ⊥
+      → (m : List ℕ) → Among (transactionIn m) (begunOf t first xs) → IsTaken u (cardFrom u second ys) m → ⊥
   -- they have none in common where the second start is moved on past what the first began
   pub restart : (t u : Tables) (first second : ℕ) → startedOf t first .number ≡ 0 → startedOf u second .number ≡ 0
       → (xs ys : List Call) (k : ℕ) → Moved first second k (length (begunOf t first xs)) (length (begunOf u second ys))

@@ -12,12 +12,12 @@ abbrev pub resultAndCode : ℕ → ℕ → ℕ
 resultAndCode result code = result % 16 * 4096 + code % 4096
 
 -- the I bit, and fifteen bits of submessage number
-abbrev pub lastOf : ℕ → ℕ
-lastOf x = x / 32768
+abbrev pub iBitOf : ℕ → ℕ
+iBitOf x = x / 32768
 
 abbrev pub submessageOf : ℕ → ℕ
 submessageOf x = x % 32768
 
 -- with I = 1
-abbrev pub lastAndSubmessage : ℕ → ℕ
-lastAndSubmessage number = 1 * 32768 + number % 32768
+abbrev pub iBitAndSubmessage : ℕ → ℕ
+iBitAndSubmessage number = 1 * 32768 + number % 32768

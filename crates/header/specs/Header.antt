@@ -7,7 +7,7 @@ use lib.ListN.{length}
 use lib.Dec.{leb, eqb}
 use Rattle.octets.specs.Numbers.{be8, be16, be24, oct8, oct16, oct24}
 use Rattle.octets.specs.Tests.{every}
-use Rattle.header.specs.Bits.{resultOf, codeOf, resultAndCode, lastOf, submessageOf, lastAndSubmessage}
+use Rattle.header.specs.Bits.{resultOf, codeOf, resultAndCode, iBitOf, submessageOf, iBitAndSubmessage}
 use Rattle.header.specs.declared.Header.{Header}
 use Rattle.header.specs.declared.Head.{Head}
 use Rattle.header.specs.declared.Head.the-variants.{Unusable, Usable}
@@ -24,7 +24,7 @@ usable s =
     ∷ eqb (be16 s 0) 0x880C
     ∷ eqb (be16 s 2) (length s - 4)
     ∷ eqb (be8 s 4) 0x32
-    ∷ eqb (lastOf (be16 s 12)) 1
+    ∷ eqb (iBitOf (be16 s 12)) 1
     ∷ eqb (submessageOf (be16 s 12)) 1
     ∷ eqb (be16 s 14) (length s - 4)
     ∷ [])
@@ -54,9 +54,9 @@ headerOf h n =
     ++ oct16 (resultAndCode (h .result) (h .code))
     ++ oct8 (h .partition)
     ++ oct24 (h .transaction)
-    ++ oct16 (lastAndSubmessage 1)
+    ++ oct16 (iBitAndSubmessage 1)
     ++ oct16 (12 + n)
 
--- a whole message: the header, and the TLVs behind it
+-- a whole message: the header, and the TLVs after it
 unfoldable pub messageOf : Header → List ℕ → List ℕ
 messageOf h body = headerOf h (length body) ++ body

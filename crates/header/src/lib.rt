@@ -5,7 +5,7 @@ ghost use Prim.Native.Nat.{_≤_, _<_};
 ghost use lib.ListN.{length};
 ghost use Rattle.octets.specs.Numbers.{oct8, oct24};
 ghost use Rattle.octets.specs.Writing.{over};
-ghost use Rattle.header.specs.Bits.{resultOf, codeOf, resultAndCode, lastOf, submessageOf, lastAndSubmessage};
+ghost use Rattle.header.specs.Bits.{resultOf, codeOf, resultAndCode, iBitOf, submessageOf, iBitAndSubmessage};
 ghost use Rattle.header.specs.Header.{sizeOk, usable, headerIn, headIn, headerOf};
 
 // What a header says beside what every usable one says alike.
@@ -60,7 +60,7 @@ fn usable_fields(s: &[u8]) -> bool
         return false;
     }
     let sub = octets::read16(s, 12);
-    if last_of(sub) != 1 {
+    if i_bit_of(sub) != 1 {
         return false;
     }
     if submessage_of(sub) != 1 {
@@ -97,7 +97,7 @@ pub fn put_header(buf: &mut [u8], h: Header, n: usize)
         result_and_code(h.result, h.code),
     );
     put_transaction(&mut buf[8..], h.partition, h.transaction);
-    octets::put_pair(&mut buf[12..], last_and_submessage(1), size);
+    octets::put_pair(&mut buf[12..], i_bit_and_submessage(1), size);
 }
 
 // The third of the header's four words.
@@ -129,8 +129,8 @@ pub fn result_and_code(result: u8, code: u16) -> u16
 }
 
 // The I bit and fifteen bits of submessage number, split, and joined with I = 1.
-pub fn last_of(x: u16) -> u8
-    ensures { λ r. ⌜ r ≡ lastOf x ⌝ }
+pub fn i_bit_of(x: u16) -> u8
+    ensures { λ r. ⌜ r ≡ iBitOf x ⌝ }
 {
     (x >> 15) as u8
 }
@@ -141,8 +141,8 @@ pub fn submessage_of(x: u16) -> u16
     x & 0x7FFF
 }
 
-pub fn last_and_submessage(number: u16) -> u16
-    ensures { λ r. ⌜ r ≡ lastAndSubmessage number ⌝ }
+pub fn i_bit_and_submessage(number: u16) -> u16
+    ensures { λ r. ⌜ r ≡ iBitAndSubmessage number ⌝ }
 {
     (1 << 15) | (number & 0x7FFF)
 }

@@ -1,4 +1,4 @@
--- A place in a message: what stands there, and the place behind it. Assumes nothing: these are definitions.
+-- A place in a message: what stands there, and the place after it. Assumes nothing: these are definitions.
 use Prim.Native.Nat.{ℕ, _+_}
 use mathlib.Core.List.{List, []}
 use lib.ListN.{take, drop}
@@ -16,7 +16,7 @@ sizeOf End = 0
 sizeOf Broken = 0
 sizeOf (Tlv t n m) = m
 
--- the place behind the TLV at place `at`
+-- the place after the TLV at place `at`
 unfoldable pub placeAfter : List ℕ → ℕ → ℕ
 placeAfter s at = at + sizeOf (tlvAt s at)
 

@@ -60,7 +60,7 @@ pub fn first_of<'a>(s: &'a [u8], kind: u16) -> &'a [u8]
     content_at(from_type(s, kind), 0)
 }
 
-// What stands at a place of a message, the content of a TLV there, and the place behind it.
+// What stands at a place of a message, the content of a TLV there, and the place after it.
 pub fn tlv_at(s: &[u8], at: usize) -> First
     ensures { λ r. ⌜ r ≡ tlvAt (now (s .entry)) at ⌝ }
 {

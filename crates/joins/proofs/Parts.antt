@@ -27,5 +27,5 @@ module _ {card : Card} {p : ℕ} {terms : Terms} (h : HasTerms card p terms) whe
       → x ≡ listDecision entries (card .head .«entry_count») f
   decided-is entries f e = e ∙ ap (λ (n : ℕ). listDecision entries n f) (sym (entries-are h))
 
-  pub terms-lent : p < 64 → (pool : Pool) → AsLent (withPool card pool) (pool .owner) (pool .channel) (pool .charged) p (terms .x .delegation)
+  pub terms-lent : p < 64 → (pool : Pool) → AsLent (withPool card pool) (pool .owner) (pool .channel) (pool .charged) p (terms .port .delegation)
   terms-lent l pool = record { owner = refl; channel = refl; charged = refl; delegation = ap (λ (y : Port). y .delegation) (port-is h l) }

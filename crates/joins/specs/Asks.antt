@@ -22,8 +22,8 @@ askedOf ids card p required preferred =
     }
 
 unfoldable pub askOf : List ℕ → Card → ℕ → ℕ → ℕ → ℕ → Outcome
-askOf ids card p required preferred room =
-    cond (ltb room 4608) (keeps card 13)
+askOf ids card p required preferred space =
+    cond (ltb space 4608) (keeps card 13)
     (cond (hasPort card p)
     (cond (portAt card p .up)
     (cond (mayAsk (portAt card p) required preferred) (askedOf ids card p required preferred) (keeps card 12))

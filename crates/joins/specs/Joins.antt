@@ -62,10 +62,10 @@ joinRow ids channels entries card p f Nothing = keeps card 9
 joinRow ids channels entries card p f (At k) =
     cond (isActive (card .pool) p k) (keeps card 1) (byList ids channels card p f k (listDecision entries (card .head .«entry_count») f))
 
--- room: how many octets the lent reply buffer has
+-- space: how many octets the lent reply buffer has
 unfoldable pub joinOf : List ℕ → List ℕ → List ℕ → Card → ℕ → Flow → ℕ → Outcome
-joinOf ids channels entries card p f room =
-    cond (ltb room 4608) (keeps card 13)
+joinOf ids channels entries card p f space =
+    cond (ltb space 4608) (keeps card 13)
     (cond (hasPort card p)
     (cond (portAt card p .up)
     (cond (goodFlow f)

@@ -40,7 +40,7 @@ pub fn join_in(
     if !card::is_port(terms.head.port_count, p) {
         return unchanged(terms, 7);
     }
-    let x = terms.x;
+    let x = terms.port;
     if !x.up {
         return unchanged(terms, 6);
     }
@@ -112,7 +112,7 @@ fn join_white(
     requires past { ⌜ p < 64 ⌝ }
     ensures { λ r. ⌜ ((text : List ℕ) → ComesTo (λ card. whiteOf (now (channels .entry)) card p k) p terms (poolOf (now (owner .entry)) (now (channel .entry)) (now (charged .entry)) (now (accounting .entry))) (poolOf (now (owner .exit)) (now (channel .exit)) (now (charged .exit)) (now (accounting .exit))) r text text) ⌝ }
 {
-    let x = terms.x;
+    let x = terms.port;
     let cac = terms.head.white_cac;
     let number = admit_number(channels, owner, channel, charged, x.delegation, cac, p, k);
     if number != 0 {
@@ -202,7 +202,7 @@ pub fn ask_in(
     if !card::is_port(terms.head.port_count, p) {
         return unchanged(terms, 7);
     }
-    let x = terms.x;
+    let x = terms.port;
     if !x.up {
         return unchanged(terms, 6);
     }

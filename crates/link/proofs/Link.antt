@@ -27,10 +27,10 @@ unfolding outcomeOf
 same-tables t card (portUp p) = refl
 same-tables t card (portDown p) = refl
 same-tables t card (setDelegation p amount) = refl
-same-tables t card (join p f room) = refl
+same-tables t card (join p f space) = refl
 same-tables t card (leave p f) = refl
-same-tables t card (ask p required preferred room) = refl
-same-tables t card (message m room) = refl
+same-tables t card (ask p required preferred space) = refl
+same-tables t card (message m space) = refl
 
 module _ (t : Tables) where
   run-card : (card : Card) (xs : List Turn) (last : Card) → Run t card xs last → last ≡ cardAfter ours t card (map callIn xs)
@@ -45,8 +45,7 @@ module _ (t : Tables) where
   run-saw card [] last none = tt
   run-saw card (x ∷ xs) last (more {next = next} does rest) =
       let same = same-tables t card (callIn x) in
-      let goes : next ≡ outcomeOf t card (callIn x) .card = does .kept ∙ ap (λ (o : Outcome). o .card) same in
-      (
+      let goes : next ≡ outcomeOf t card (callIn x) .card = does .kept ∙ ap (λ (o : Outcome). o .card) same in (
         record {
           call = refl;
           number = does .number ∙ ap (λ (o : Outcome). o .number) same;

@@ -37,16 +37,16 @@ module _
     (once : (k j : ℕ) → before k j ≡ true → before j k ≡ false)
     (trans : (k j i : ℕ) → before j k ≡ false → before i j ≡ false → before i k ≡ false)
   where
-    -- what does not go behind the first may take its place
+    -- what does not go after the first may take its place
     first-for : (k j : ℕ) (js : List ℕ) → before j k ≡ false → Ordered before (j ∷ js) → Ordered before (k ∷ js)
     first-for k j [] h o = one k
     first-for k j (i ∷ is) h (more _ _ _ g o) = more k i is (trans k j i h g) o
 
-    -- placed behind a row that it does not go before
-    behind-ordered : (j k : ℕ) (js : List ℕ) → before k j ≡ false → Ordered before (j ∷ js) → Ordered before (j ∷ placed before k js)
+    -- placed after a row that it does not go before
+    after-ordered : (j k : ℕ) (js : List ℕ) → before k j ≡ false → Ordered before (j ∷ js) → Ordered before (j ∷ placed before k js)
     unfolding placed
-    behind-ordered j k [] h o = more j k [] h (one k)
-    behind-ordered j k (i ∷ is) h (more _ _ _ g o) = go (before k i) refl (λ a b. behind-ordered a b is)
+    after-ordered j k [] h o = more j k [] h (one k)
+    after-ordered j k (i ∷ is) h (more _ _ _ g o) = go (before k i) refl (λ a b. after-ordered a b is)
       where
         go : (b : Bool) → before k i ≡ b → ((a b : ℕ) → before b a ≡ false → Ordered before (a ∷ is) → Ordered before (a ∷ placed before b is))
             → Ordered before (j ∷ cond b (k ∷ placed before i is) (i ∷ placed before k is))
@@ -59,8 +59,8 @@ module _
     placed-ordered k (j ∷ js) o = go (before k j) refl
       where
         go : (b : Bool) → before k j ≡ b → Ordered before (cond b (k ∷ placed before j js) (j ∷ placed before k js))
-        go true t = behind-ordered k j js (once k j t) (first-for k j js (once k j t) o)
-        go false t = behind-ordered j k js t o
+        go true t = after-ordered k j js (once k j t) (first-for k j js (once k j t) o)
+        go false t = after-ordered j k js t o
 
     all-ordered : (done ks : List ℕ) → Ordered before done → Ordered before (placedAll before done ks)
     unfolding placedAll

@@ -16,20 +16,20 @@ use Rattle.octets.specs.Writing.{over}
 use Rattle.octets.proofs.Writing.{over-none, over-turn, over-done}
 use Rattle.listing.specs.Listing.{placed}
 
--- what stands behind w is kept
-over-behind : (w l : List ℕ) (i : ℕ) → length w ≤ i → i < length l → getD (over w l) i 0 ≡ getD l i 0
+-- what stands after w is kept
+over-after : (w l : List ℕ) (i : ℕ) → length w ≤ i → i < length l → getD (over w l) i 0 ≡ getD l i 0
 unfolding over
-over-behind [] l i h k = refl
-over-behind (x ∷ w) [] i h k = absurd (omega arith)
-over-behind (x ∷ w) (y ∷ l) zero h k = absurd (omega arith)
-over-behind (x ∷ w) (y ∷ l) (suc i) h k = over-behind w l i (omega arith) (omega arith)
+over-after [] l i h k = refl
+over-after (x ∷ w) [] i h k = absurd (omega arith)
+over-after (x ∷ w) (y ∷ l) zero h k = absurd (omega arith)
+over-after (x ∷ w) (y ∷ l) (suc i) h k = over-after w l i (omega arith) (omega arith)
 
--- the element at i, and what is behind it
+-- the element at i, and what is after it
 at-of : (w : List ℕ) (i x : ℕ) (t : List ℕ) → i < length w → drop i w ≡ x ∷ t → x ≡ getD w i 0
 at-of w i x t h e = cc (drop-cons w i 0 h)
 
-behind-of : (w : List ℕ) (i x : ℕ) (t : List ℕ) → i < length w → drop i w ≡ x ∷ t → drop (i + 1) w ≡ t
-behind-of w i x t h e = rw add-one (cc (drop-cons w i 0 h))
+after-of : (w : List ℕ) (i x : ℕ) (t : List ℕ) → i < length w → drop i w ≡ x ∷ t → drop (i + 1) w ≡ t
+after-of w i x t h e = rw add-one (cc (drop-cons w i 0 h))
 
 module _ (before : ℕ → ℕ → Bool) where
   pub placed-length : (k : ℕ) (js : List ℕ) → length (placed before k js) ≡ length js + 1
@@ -69,7 +69,7 @@ module _ (before : ℕ → ℕ → Bool) where
           reads : getD rows i 0 ≡ getD old i 0
           reads =
               ap (λ (r : List ℕ). getD r i 0) (inv .text)
-              ∙ over-behind (take i (placed before k (take n old))) old i (omega (arith, length-take i (placed before k (take n old)), size)) (omega arith)
+              ∙ over-after (take i (placed before k (take n old))) old i (omega (arith, length-take i (placed before k (take n old)), size)) (omega arith)
 
           ahead : drop i (take n old) ≡ getD rows i 0 ∷ drop (i + 1) (take n old)
           ahead =
@@ -88,7 +88,7 @@ module _ (before : ℕ → ℕ → Bool) where
               let full = size in
               record {
                 text = er ∙ over-turn w old i x (inv .text) (at-of w i x t (omega arith) (here ∙ e)) (omega arith) (omega arith);
-                rest = behind-of w i x t (omega arith) (here ∙ e) ∙ ap (λ (z : ℕ). placed before z (drop (i + 1) (take n old))) (sym ey);
+                rest = after-of w i x t (omega arith) (here ∙ e) ∙ ap (λ (z : ℕ). placed before z (drop (i + 1) (take n old))) (sym ey);
               }
 
           -- the two change places, and the row that was read is carried on

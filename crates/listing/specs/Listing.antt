@@ -32,7 +32,7 @@ placedAll before done (k ∷ ks) = placedAll before (placed before k done) ks
 unfoldable pub inOrder : (ℕ → ℕ → Bool) → List ℕ → List ℕ
 inOrder before ks = placedAll before [] ks
 
--- nothing goes before what it stands directly behind
+-- nothing goes before what it stands directly after
 pub data Ordered (before : ℕ → ℕ → Bool) : List ℕ → Type 0 where
   none : Ordered before []
   one : (k : ℕ) → Ordered before (k ∷ [])

@@ -9,7 +9,7 @@ ghost use mathlib.Core.List.{List, []};
 ghost use Prim.Native.Nat.{ℕ, _+_, _<_};
 ghost use lib.ListN.{take};
 ghost use Rattle.octets.specs.Writing.{over};
-ghost use Rattle.pool.specs.Pool.{listed, rowsIn, poolOf};
+ghost use Rattle.pool.specs.Pool.{asRows, rowsIn, poolOf};
 ghost use Rattle.card.specs.Cards.{Areas, cardOf};
 ghost use Rattle.listing.specs.Listing.{rowBefore, placed, Listed, rowsInOrder, flowsAt, activeAt};
 
@@ -17,7 +17,7 @@ ghost use Rattle.listing.specs.Listing.{rowBefore, placed, Listed, rowsI
 
 // The channels of the port's active flows, in order.
 pub fn flows_of(core: Core, channels: &[u32; 2816], p: usize) -> Rows
-    ensures { λ r. ⌜ ((areas : Areas) → r ≡ listed (flowsAt (now (channels .entry)) (cardOf core areas) p)) ⌝ }
+    ensures { λ r. ⌜ ((areas : Areas) → r ≡ asRows (flowsAt (now (channels .entry)) (cardOf core areas) p)) ⌝ }
 {
     if !card::is_port(core.head.port_count, p) {
         return no_rows();
@@ -52,7 +52,7 @@ pub fn rows_in_order<'a>(
     channel: &'a [u8; 512],
     p: u8,
 ) -> Rows
-    ensures rows { λ r. ⌜ ((charged : List Bool) (accounting : List ℕ) → r ≡ listed (rowsInOrder (now (channels .entry)) (poolOf (now (owner .entry)) (now (channel .entry)) charged accounting) p)) ⌝ }
+    ensures rows { λ r. ⌜ ((charged : List Bool) (accounting : List ℕ) → r ≡ asRows (rowsInOrder (now (channels .entry)) (poolOf (now (owner .entry)) (now (channel .entry)) charged accounting) p)) ⌝ }
     ensures order { λ _. ⌜ Listed (now (channels .entry)) (take 16 (rowsIn (now (owner .entry)) (now (channel .entry)) p)) ⌝ }
 {
     let found = pool::rows_of(owner, channel, p);
@@ -68,7 +68,7 @@ pub fn rows_in_order<'a>(
 }
 
 fn no_rows() -> Rows
-    ensures { λ r. ⌜ r ≡ listed [] ⌝ }
+    ensures { λ r. ⌜ r ≡ asRows [] ⌝ }
 {
     Rows {
         count: 0,

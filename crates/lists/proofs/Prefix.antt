@@ -1,6 +1,6 @@
 -- Comparing prefixes word by word, and a word by shifts.
 --     word-shift       the first n bits of two words are equal exactly when the words are, shifted by the other bits
---     prefix-turn      the prefix of an address: that of its first word, and what is left of it in the words behind
+--     prefix-turn      the prefix of an address: that of its first word, and what is left of it in the words after
 -- Assumes nothing.
 use Prim.Native.Nat.{ℕ, zero, suc, _+_, _-_, _*_, _/_, _%_, _^_, _≤_, _<_, min}
 use mathlib.Core.Path.{_≡_, refl, sym, ap, ap₂, _∙_, subst}
@@ -79,7 +79,7 @@ pub word-shift : (n a b : ℕ) → a < 2 ^ 32 → b < 2 ^ 32 → prefixMatches n
 unfolding prefixMatches bitsOf
 word-shift n a b ha hb = rw (append-nil (bits 32 a), append-nil (bits 32 b)) (word-bits n a b ha hb)
 
--- ---- words behind the first
+-- ---- words after the first
 take-over : (n : ℕ) (p q : List ℕ) → take n (p ++ q) ≡ take n p ++ take (n - length p) q
 take-over n [] q = ap (λ (k : ℕ). take k q) (let e : n ≡ n - 0 = omega arith in e) ∙ ap (λ (r : List ℕ). r ++ take (n - 0) q) (sym (take-nil n))
 take-over zero (x ∷ p) q = ap (λ (k : ℕ). take k q) (let e : 0 ≡ 0 - suc (length p) = omega arith in e)

@@ -90,15 +90,15 @@ module _ (ids : List ℕ) (count : ℕ) (m : List ℕ) where
       go false s u v = absurd (omega (arith, e, named-size s))
 
 -- ---- 13, 15
-module _ (ids channels : List ℕ) (card : Card) (m : List ℕ) (room : ℕ) where
+module _ (ids channels : List ℕ) (card : Card) (m : List ℕ) (space : ℕ) where
   abbrev comes : Outcome
-  comes = receivedOf ids channels card m room
+  comes = receivedOf ids channels card m space
 
-  pub no-room : ltb room 4608 ≡ true → keeps card 13 ≡ comes
+  pub no-room : ltb space 4608 ≡ true → keeps card 13 ≡ comes
   unfolding receivedOf
   no-room t = rw t
 
-  module _ (full : ltb room 4608 ≡ false) where
+  module _ (full : ltb space 4608 ≡ false) where
     pub usable-is : {h : Header} → sizeOk m ≡ true → headIn m ≡ Usable h → byResult ids channels card h (drop 16 m) ≡ comes
     unfolding receivedOf byHead
     usable-is size e = rw (full, size, e)

@@ -62,10 +62,10 @@ unfoldable pub byHead : List ℕ → List ℕ → Card → List ℕ → Head →
 byHead ids channels card m Unusable = keeps card 15
 byHead ids channels card m (Usable h) = byResult ids channels card h (drop 16 m)
 
--- "Number 13; then 15 for size, 0x880C, either length, version or submessage." room: how many octets the lent reply buffer has
+-- "Number 13; then 15 for size, 0x880C, either length, version or submessage." space: how many octets the lent reply buffer has
 unfoldable pub receivedOf : List ℕ → List ℕ → Card → List ℕ → ℕ → Outcome
-receivedOf ids channels card m room =
-    cond (ltb room 4608) (keeps card 13)
+receivedOf ids channels card m space =
+    cond (ltb space 4608) (keeps card 13)
     (cond (sizeOk m) (byHead ids channels card m (headIn m)) (keeps card 15))
 
 -- the one port whose record and flows a message can change: the one that its Target names, or 64 where it is no port's;

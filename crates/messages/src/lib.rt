@@ -18,7 +18,7 @@ ghost use Rattle.card.specs.Parts.{ComesTo};
 ghost use Rattle.checks.specs.Table.{portNamed, tableOf};
 ghost use Rattle.messages.specs.Messages.{isAnswer, isNotice, byType, requested, refusedNumber, offered, byResult, receivedOf, namedIn};
 
-// The port that a message's Target names, or 64; 65 where size or header is wrong, and then nothing behind the header
+// The port that a message's Target names, or 64; 65 where size or header is wrong, and then nothing after the header
 // is looked at.
 pub fn port_named(ids: &[u8; 4096], port_count: usize, octets: &[u8]) -> usize
     ensures { λ r. ⌜ r ≡ namedIn (now (ids .entry)) «port_count» (now (octets .entry)) ⌝ }
@@ -84,7 +84,7 @@ fn by_result(
     reply: &mut [u8],
 ) -> Effect
     requires whole { ⌜ Whole (poolOf (now owner) (now channel) (now charged) (now accounting)) ⌝ }
-    requires room { ⌜ (4608 ≤ length (now reply)) × (length (now tlvs) ≤ 4096) ⌝ }
+    requires space { ⌜ (4608 ≤ length (now reply)) × (length (now tlvs) ≤ 4096) ⌝ }
     requires named { ⌜ (terms .at < 64) × (p ≡ portNamed (now ids) (terms .head .«port_count») (now tlvs)) ⌝ }
     ensures { λ r. ⌜ ComesTo (λ card. byResult (now (ids .entry)) (now (channels .entry)) card h (now (tlvs .entry))) p terms (poolOf (now (owner .entry)) (now (channel .entry)) (now (charged .entry)) (now (accounting .entry))) (poolOf (now (owner .exit)) (now (channel .exit)) (now (charged .exit)) (now (accounting .exit))) r (now (reply .entry)) (now (reply .exit)) ⌝ }
 {
@@ -132,7 +132,7 @@ fn is_notice(h: Header) -> bool
 fn offered(terms: Terms, p: usize, h: Header, tlvs: &[u8]) -> Effect
     ensures { λ r. ⌜ ((ids : List ℕ) (pool : Pool) (text : List ℕ) → p ≡ portNamed ids (terms .head .«port_count») (now (tlvs .entry)) → ComesTo (λ card. offered card h (now (tlvs .entry)) (tableOf ids card h (now (tlvs .entry)))) p terms pool pool r text text) ⌝ }
 {
-    let x = terms.x;
+    let x = terms.port;
     let verdict = checks::check_table(p, x.up, h, tlvs);
     match verdict {
         Verdict::Refused(code) => unchanged(terms, refused_number(code)),
@@ -170,11 +170,11 @@ fn requested(
     reply: &mut [u8],
 ) -> Effect
     requires whole { ⌜ Whole (poolOf (now owner) (now channel) (now charged) (now accounting)) ⌝ }
-    requires room { ⌜ (4608 ≤ length (now reply)) × (length (now tlvs) ≤ 4096) ⌝ }
+    requires space { ⌜ (4608 ≤ length (now reply)) × (length (now tlvs) ≤ 4096) ⌝ }
     requires named { ⌜ (terms .at < 64) × (p ≡ portNamed (now ids) (terms .head .«port_count») (now tlvs)) ⌝ }
     ensures { λ r. ⌜ ComesTo (λ card. requested (now (ids .entry)) (now (channels .entry)) card h (now (tlvs .entry)) (tableOf (now (ids .entry)) card h (now (tlvs .entry)))) p terms (poolOf (now (owner .entry)) (now (channel .entry)) (now (charged .entry)) (now (accounting .entry))) (poolOf (now (owner .exit)) (now (channel .exit)) (now (charged .exit)) (now (accounting .exit))) r (now (reply .entry)) (now (reply .exit)) ⌝ }
 {
-    let x = terms.x;
+    let x = terms.port;
     let verdict = checks::check_table(p, x.up, h, tlvs);
     match verdict {
         Verdict::Refused(code) => {
@@ -210,7 +210,7 @@ fn by_type(
     reply: &mut [u8],
 ) -> Effect
     requires whole { ⌜ Whole (poolOf (now owner) (now channel) (now charged) (now accounting)) ⌝ }
-    requires room { ⌜ (4608 ≤ length (now reply)) × (length (now tlvs) ≤ 4096) × (terms .at < 64) ⌝ }
+    requires space { ⌜ (4608 ≤ length (now reply)) × (length (now tlvs) ≤ 4096) × (terms .at < 64) ⌝ }
     ensures { λ r. ⌜ ComesTo (λ card. byType (now (ids .entry)) (now (channels .entry)) card h (now (tlvs .entry)) (terms .at)) (terms .at) terms (poolOf (now (owner .entry)) (now (channel .entry)) (now (charged .entry)) (now (accounting .entry))) (poolOf (now (owner .exit)) (now (channel .exit)) (now (charged .exit)) (now (accounting .exit))) r (now (reply .entry)) (now (reply .exit)) ⌝ }
 {
     if h.kind == 144 {

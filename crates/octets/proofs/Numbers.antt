@@ -1,4 +1,4 @@
--- Numbers that are written read back, with whatever stands behind them; and how many octets each takes. Assumes nothing.
+-- Numbers that are written read back, with whatever stands after them; and how many octets each takes. Assumes nothing.
 use mathlib.Core.Path.{_≡_, refl}
 use mathlib.Core.List.{List, _++_}
 use Prim.Native.Nat.{ℕ, _<_}

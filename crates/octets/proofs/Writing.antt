@@ -1,7 +1,7 @@
 -- The laws of writing over a buffer's start.
 --     stores        octets stored one after the other from the start on are written over it
 --     over-turn     a turn of a loop that writes w octet by octet, and over-done its end
---     lent-behind   a is written, and the rest of the buffer is lent to the writer of b: a and then b is written
+--     lent-after    a is written, and the rest of the buffer is lent to the writer of b: a and then b is written
 --     lent-before   the rest of the buffer is lent to the writer of b first, and then a is written before it
 -- Assumes nothing.
 use mathlib.Core.Path.{_≡_, refl, sym, ap, _∙_}
@@ -46,9 +46,9 @@ pub over-done : (w l : List ℕ) {b : List ℕ} (i : ℕ) → b ≡ over (take i
 over-done w l i e h = e ∙ ap (λ (r : List ℕ). over r l) (take-all i w h)
 
 -- ---- the rest of the buffer lent to another writer
-behind : (a b l : List ℕ) (n : ℕ) → length a ≡ n → take n (over a l) ++ over b (drop n (over a l)) ≡ over (a ++ b) l
+after : (a b l : List ℕ) (n : ℕ) → length a ≡ n → take n (over a l) ++ over b (drop n (over a l)) ≡ over (a ++ b) l
 unfolding over
-behind a b l n e =
+after a b l n e =
     rw (take-at a (drop (length a) l) n e, drop-at a (drop (length a) l) n e, drop-drop, length-append, append-assoc)
 
 -- what is lent from n on comes back as y
@@ -57,13 +57,13 @@ comes-back n l y =
     ap (λ (r : List ℕ). take n l ++ (y ++ r)) (drop-of-length-le (drop n l) {i = length l - n} (simp length-drop (le-refl (length l - n))))
     ∙ ap (λ (r : List ℕ). take n l ++ r) (append-nil y)
 
-pub lent-behind : (a b l : List ℕ) {x y : List ℕ} (n : ℕ) → x ≡ over a l → length a ≡ n → y ≡ over b (take (length x - n) (drop n x))
+pub lent-after : (a b l : List ℕ) {x y : List ℕ} (n : ℕ) → x ≡ over a l → length a ≡ n → y ≡ over b (take (length x - n) (drop n x))
     → putMid n (length x - n) x y ≡ over (a ++ b) l
-lent-behind a b l {x} {y} n ex en ey =
+lent-after a b l {x} {y} n ex en ey =
     comes-back n x y
     ∙ ap (λ (r : List ℕ). take n x ++ r) (ey ∙ ap (over b) (rest-part n x))
     ∙ ap (λ (r : List ℕ). take n r ++ over b (drop n r)) ex
-    ∙ behind a b l n en
+    ∙ after a b l n en
 
 pub lent-before : (a b l : List ℕ) {y z : List ℕ} (n : ℕ) → length a ≡ n → n ≤ length l → y ≡ over b (take (length l - n) (drop n l))
     → z ≡ over a (putMid n (length l - n) l y) → z ≡ over (a ++ b) l

@@ -97,7 +97,7 @@ pub fn put32(buf: &mut [u8], x: u32)
     buf[3] = (x % 256) as u8;
 }
 
-// Two numbers of 16 bits, the second directly behind the first.
+// Two numbers of 16 bits, the second directly after the first.
 pub fn put_pair(buf: &mut [u8], a: u16, b: u16)
     requires { ⌜ 4 ≤ length (now buf) ⌝ }
     ensures { λ _. ⌜ now (buf .exit) ≡ over (oct16 a ++ oct16 b) (now (buf .entry)) ⌝ }

@@ -17,7 +17,7 @@ use lib.Seq.{getD-set-same, getD-set-other}
 use borrow.Author.Tests.{eqb-true, eqb-false, lt-ltb, ltb-true, ltb-false}
 use Rattle.sums.specs.Sums.{sumTo}
 use Rattle.sums.proofs.Sums.{sumTo-ext, sumTo-mono, sumTo-add, sumTo-const, sumTo-none, sumTo-strict, sumTo-change, sumTo-swap, test-most, one-hot}
-use Rattle.pool.specs.Pool.{isOf, sumOver, free, countIn, countOf, extrasIn, extrasOf, roomFor, freeIn, freeOf, roomIn, hasRoom, freshPool, began, isOne, ended, accounted}
+use Rattle.pool.specs.Pool.{isOf, sumOver, free, countIn, activeCount, extrasIn, extrasOf, roomFor, freeIn, freeOf, roomIn, hasRoom, freshPool, began, isOne, ended, accounted}
 use Rattle.pool.specs.declared.Pool.{Pool}
 use Rattle.octets.proofs.Tests.{same-by}
 use Rattle.pool.proofs.Rooms.{room-facts, room-both, room-of}
@@ -108,33 +108,33 @@ module _ (owner : List ℕ) where
 
 -- ---- extras
 pub extras-fresh : extrasOf freshPool ≡ 0
-extras-fresh = sumTo-none 64 (λ q. countOf freshPool q - 4) (λ q l. omega (arith, pool-fresh q (λ k c a. 1) (λ z. omega arith)))
+extras-fresh = sumTo-none 64 (λ q. activeCount freshPool q - 4) (λ q l. omega (arith, pool-fresh q (λ k c a. 1) (λ z. omega arith)))
 
 module _ (pool : Pool) (p : ℕ) (port : p < 64) where
   module _ (whole : Whole pool) (k : ℕ) (c : Bool) (a : ℕ) where
     pub extras-began : hasRoom pool p ≡ true → extrasOf pool ≤ 256 → extrasOf (began pool p k c a) ≤ 256
     extras-began r h =
         let room = room-both (pool .owner) p r in
-        let mine : countOf (began pool p k c a) p ≡ countOf pool p + 1 = pool-began pool whole (room .1) p k c a (λ j b x. 1) (λ z. omega arith) in
+        let mine : activeCount (began pool p k c a) p ≡ activeCount pool p + 1 = pool-began pool whole (room .1) p k c a (λ j b x. 1) (λ z. omega arith) in
         let all =
-        sumTo-change (λ q. countOf pool q - 4) (λ q. countOf (began pool p k c a) q - 4) 64 p port
+        sumTo-change (λ q. activeCount pool q - 4) (λ q. activeCount (began pool p k c a) q - 4) 64 p port
         (λ q l m. ap (λ (n : ℕ). n - 4) (sym (pool-began-other pool whole (room .1) p k c a (λ j b x. 1) q (λ z. omega arith) m)))
         in
         ⊎-elim
-        (λ (l : countOf pool p < 4). omega arith)
-        (λ (l : (countOf pool p < 16) × (extrasOf pool < 256)). omega (arith, l .1))
-        (room-facts (countOf pool p) (extrasOf pool) (room .0))
+        (λ (l : activeCount pool p < 4). omega arith)
+        (λ (l : (activeCount pool p < 16) × (extrasOf pool < 256)). omega (arith, l .1))
+        (room-facts (activeCount pool p) (extrasOf pool) (room .0))
 
   pub extras-ended : (sel : ℕ → Bool) → extrasOf (ended pool p sel) ≤ extrasOf pool
-  extras-ended sel = sumTo-mono (λ q. countOf (ended pool p sel) q - 4) (λ q. countOf pool q - 4) 64 (λ q l. at q l (eqb q p) refl)
+  extras-ended sel = sumTo-mono (λ q. activeCount (ended pool p sel) q - 4) (λ q. activeCount pool q - 4) 64 (λ q l. at q l (eqb q p) refl)
     where
       fewer : (b : Bool) → cond b 0 1 ≤ 1
       fewer true = omega arith
       fewer false = omega arith
 
-      at : (q : ℕ) → q < 64 → (b : Bool) → eqb q p ≡ b → countOf (ended pool p sel) q - 4 ≤ countOf pool q - 4
+      at : (q : ℕ) → q < 64 → (b : Bool) → eqb q p ≡ b → activeCount (ended pool p sel) q - 4 ≤ activeCount pool q - 4
       at q l true e =
           let s : q ≡ p = eqb-true q p e in
           let less = sum-mono (pool .owner) p (λ i. cond (sel (getD (pool .channel) i 0)) 0 1) (λ i. 1) (λ i. fewer (sel (getD (pool .channel) i 0))) in
-          omega (arith, pool-ended pool p sel (λ k c a. 1) (λ z. omega arith), less, ap (countOf (ended pool p sel)) s, ap (countOf pool) s)
+          omega (arith, pool-ended pool p sel (λ k c a. 1) (λ z. omega arith), less, ap (activeCount (ended pool p sel)) s, ap (activeCount pool) s)
       at q l false e = omega (arith, pool-ended-other pool p sel (λ k c a. 1) q (λ z. omega arith) (eqb-false q p e))

@@ -15,7 +15,7 @@ use Rattle.octets.proofs.Writing.{over-none}
 use Rattle.rows.proofs.Nexts.{kept-over}
 use Rattle.sums.specs.Sums.{pickTo, sumBy}
 use Rattle.sums.proofs.Picks.{pickTo-zero, pickTo-take, pickTo-pass, pickTo-start, sumBy-pick, length-pick}
-use Rattle.pool.specs.Pool.{isOf, Next, sumOver, poolSum, countOf, rowsIn, rowsOf, listed}
+use Rattle.pool.specs.Pool.{isOf, Next, sumOver, poolSum, activeCount, rowsIn, rowsOf, asRows}
 use Rattle.pool.specs.declared.Pool.{Pool}
 use Rattle.pool.specs.declared.Rows.{Rows}
 
@@ -26,7 +26,7 @@ rowsBefore owner channel p i = pickTo i (isOf owner p) (λ j. getD channel j 0)
 abbrev pub zeros : List ℕ
 zeros = replicate 16 0
 
--- one more written behind what stands there
+-- one more written after what stands there
 over-more : (w l : List ℕ) (v : ℕ) → length w < length l → set (over w l) (length w) v ≡ over (w ++ (v ∷ [])) l
 unfolding over
 over-more [] [] v h = absurd (omega arith)
@@ -60,18 +60,18 @@ module _ (owner channel : List ℕ) (p i : ℕ) {count : ℕ} {rows : List ℕ} 
       record { size = inv .size ∙ ap length e; text = inv .text ∙ ap (λ (w : List ℕ). over w zeros) e }
 
   -- what was collected is listed, if it is the beginning of what is owed
-  is-listed : take 16 (rowsIn owner channel p) ≡ rowsBefore owner channel p i → _≡_ {A = Rows} (record { count = count; rows = rows }) (listed (rowsIn owner channel p))
-  unfolding listed
+  is-listed : take 16 (rowsIn owner channel p) ≡ rowsBefore owner channel p i → _≡_ {A = Rows} (record { count = count; rows = rows }) (asRows (rowsIn owner channel p))
+  unfolding asRows
   is-listed e =
       ap₂ (λ (n : ℕ) (r : List ℕ). record { count = n; rows = r }) (inv .size ∙ ap length (sym e)) (inv .text ∙ ap (λ (w : List ℕ). over w zeros) (sym e))
 
-  pub rows-all : i ≤ 512 → 512 ≤ i → count ≤ 16 → _≡_ {A = Rows} (record { count = count; rows = rows }) (listed (rowsIn owner channel p))
+  pub rows-all : i ≤ 512 → 512 ≤ i → count ≤ 16 → _≡_ {A = Rows} (record { count = count; rows = rows }) (asRows (rowsIn owner channel p))
   unfolding rowsIn
   rows-all l m h =
       let z : i ≡ 512 = omega arith in
       is-listed (take-all 16 (rowsIn owner channel p) (omega (arith, inv .size, ap (λ (n : ℕ). length (rowsBefore owner channel p n)) z)) ∙ ap (rowsBefore owner channel p) (sym z))
 
-  pub rows-cut : i ≤ 512 → count ≤ 16 → 16 ≤ count → _≡_ {A = Rows} (record { count = count; rows = rows }) (listed (rowsIn owner channel p))
+  pub rows-cut : i ≤ 512 → count ≤ 16 → 16 ≤ count → _≡_ {A = Rows} (record { count = count; rows = rows }) (asRows (rowsIn owner channel p))
   unfolding rowsIn
   rows-cut l h m =
       let z : 16 ≡ length (rowsBefore owner channel p i) = omega (arith, inv .size) in
@@ -83,6 +83,6 @@ module _ (pool : Pool) (p : ℕ) where
   unfolding rowsIn sumOver
   rows-sum g = sumBy-pick (isOf (pool .owner) p) (λ i. getD (pool .channel) i 0) g 512
 
-  pub rows-length : length (rowsOf pool p) ≡ countOf pool p
+  pub rows-length : length (rowsOf pool p) ≡ activeCount pool p
   unfolding rowsIn sumOver
   rows-length = length-pick (isOf (pool .owner) p) (λ i. getD (pool .channel) i 0) 512

@@ -21,19 +21,19 @@ use lib.Dec.{eqb, ltb}
 use lib.Seq.{getD-set-same, getD-set-other}
 use borrow.Author.Tests.{eqb-true, eqb-false, eq-eqb, ne-eqb, ltb-true, ltb-false}
 use Rattle.channels.specs.Channels.{rateAt}
-use Rattle.rows.specs.Rows.{firstOf}
+use Rattle.rows.specs.Rows.{firstRow}
 use Rattle.rows.specs.declared.Found.{Found}
 use Rattle.rows.specs.declared.Found.the-variants.{At, Nothing}
 use Rattle.rows.proofs.Rows.{FoundAt, found-at, found-none}
 use Rattle.sums.proofs.Sums.{sumTo-ext, sumTo-mono, sumTo-add, sumTo-change, sumTo-none}
 use Rattle.sums.proofs.Maps.{mapTo-getD}
-use Rattle.pool.specs.Pool.{isOf, Next, sumOver, recordSum, poolSum, countOf, committedOf, holdsOf, free, orSize, freeIn, freeOf, freshPool, filled, began, isOne, ended, accounted}
+use Rattle.pool.specs.Pool.{isOf, Next, sumOver, recordSum, poolSum, activeCount, committedOf, holdsOf, free, orSize, freeIn, freeOf, freshPool, filled, began, isOne, ended, accounted}
 use Rattle.pool.specs.declared.Pool.{Pool}
 use Rattle.pool.proofs.Whole.{Whole}
 
 -- ---- figures as sums
 module _ (pool : Pool) (p : ℕ) where
-  pub count-is : countOf pool p ≡ poolSum pool p (λ k c. 1)
+  pub count-is : activeCount pool p ≡ poolSum pool p (λ k c. 1)
   count-is = refl
 
   pub committed-is : (table : List ℕ) → committedOf table pool p ≡ poolSum pool p (λ k c. cond c (rateAt table k) 0)
@@ -71,9 +71,9 @@ module _ (owner : List ℕ) where
   free-by : {C : Type 0} → ((i : ℕ) → freeIn owner ≡ i → FoundAt 512 (isOf owner free) i → C)
       → (freeIn owner ≡ 512 → ((j : ℕ) → j < 512 → isOf owner free j ≡ false) → C) → C
   unfolding freeIn
-  free-by {C} f g = go (firstOf 512 (isOf owner free)) refl
+  free-by {C} f g = go (firstRow 512 (isOf owner free)) refl
     where
-      go : (r : Found) → firstOf 512 (isOf owner free) ≡ r → C
+      go : (r : Found) → firstRow 512 (isOf owner free) ≡ r → C
       go (At i) e = f i (ap orSize e) (found-at (isOf owner free) 512 e)
       go Nothing e = g (ap orSize e) (found-none (isOf owner free) 512 e)
 

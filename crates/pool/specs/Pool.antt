@@ -8,7 +8,7 @@ use lib.ListN.{length, getD, set, take, replicate}
 use lib.Dec.{eqb, ltb}
 use Rattle.flows.specs.declared.Flow.{Flow}
 use Rattle.channels.specs.Channels.{rateAt, isRow}
-use Rattle.rows.specs.Rows.{firstOf, NextWith}
+use Rattle.rows.specs.Rows.{firstRow, NextWith}
 use Rattle.rows.specs.declared.Found.{Found}
 use Rattle.rows.specs.declared.Found.the-variants.{At, Nothing}
 use Rattle.sums.specs.Sums.{sumTo, mapTo, pickTo}
@@ -87,7 +87,7 @@ orSize Nothing = 512
 -- the first free record, or 512 where none is. Which free record is taken is the program's choice; `pool-filled` and
 -- `pool-filled-other` (proofs/Pools.antt) say what every choice has in common
 unfoldable pub freeIn : List ℕ → ℕ
-freeIn owner = orSize (firstOf 512 (isOf owner free))
+freeIn owner = orSize (firstRow 512 (isOf owner free))
 
 -- room by the rule, and a free record. On cards that calls reach the second follows from the first (`room-free`); it makes the
 -- definition total
@@ -98,14 +98,14 @@ roomIn owner p = roomFor (countIn owner p) (extrasIn owner) && ltb (freeIn owner
 unfoldable pub rowsIn : List ℕ → List ℕ → ℕ → List ℕ
 rowsIn owner channel p = pickTo 512 (isOf owner p) (λ i. getD channel i 0)
 
--- at most 16 of them, zeros behind: on cards that calls reach no port has more, so that nothing is cut
-unfoldable pub listed : List ℕ → Rows
-listed ks = record { count = length (take 16 ks); rows = over (take 16 ks) (replicate 16 0) }
+-- at most 16 of them, then zeros: on cards that calls reach no port has more, so that nothing is cut
+unfoldable pub asRows : List ℕ → Rows
+asRows ks = record { count = length (take 16 ks); rows = over (take 16 ks) (replicate 16 0) }
 
 -- ---- the same of a pool
 
-abbrev pub countOf : Pool → ℕ → ℕ
-countOf pool p = countIn (pool .owner) p
+abbrev pub activeCount : Pool → ℕ → ℕ
+activeCount pool p = countIn (pool .owner) p
 
 abbrev pub committedOf : List ℕ → Pool → ℕ → ℕ
 committedOf table pool p = committedIn table (pool .owner) (pool .channel) (pool .charged) p

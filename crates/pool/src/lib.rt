@@ -7,7 +7,7 @@ ghost use lib.Dec.{eqb};
 ghost use Rattle.rows.specs.Rows.{noneOf};
 ghost use Rattle.sums.specs.Sums.{mapTo};
 ghost use Rattle.channels.specs.Channels.{isRow};
-ghost use Rattle.pool.specs.Pool.{isOf, Next, countIn, committedIn, activeIn, activeWhere, extrasIn, freeIn, roomIn, freshPool, began, rowsIn, listed, poolOf, Whole, endedIn, endedAllIn, accountedIn};
+ghost use Rattle.pool.specs.Pool.{isOf, Next, countIn, committedIn, activeIn, activeWhere, extrasIn, freeIn, roomIn, freshPool, began, rowsIn, asRows, poolOf, Whole, endedIn, endedAllIn, accountedIn};
 use channels::channel_at;
 use channels::rate_at;
 use flows::Flow;
@@ -25,7 +25,7 @@ pub struct Pool {
     pub accounting: [u8; 512],
 }
 
-// The channels of a port's flows: the first `count` of `rows`, and zeros behind them.
+// The channels of a port's flows: the first `count` of `rows`, and zeros after them.
 #[repr(C)]
 pub struct Rows {
     pub count: usize,
@@ -135,7 +135,7 @@ pub fn account_in<'a>(
 // ---- figures, read off maps that are lent
 
 // How many flows the port has.
-pub fn count_of(owner: &[u8; 512], p: u8) -> usize
+pub fn active_count(owner: &[u8; 512], p: u8) -> usize
     ensures { λ r. ⌜ r ≡ countIn (now (owner .entry)) p ⌝ }
 {
     let mut n: usize = 0;
@@ -190,7 +190,7 @@ fn wide(x: u32) -> u64
 
 // The channels of the port's flows, in the order of the records.
 pub fn rows_of<'a>(owner: &'a [u8; 512], channel: &'a [u8; 512], p: u8) -> Rows
-    ensures { λ r. ⌜ r ≡ listed (rowsIn (now (owner .entry)) (now (channel .entry)) p) ⌝ }
+    ensures { λ r. ⌜ r ≡ asRows (rowsIn (now (owner .entry)) (now (channel .entry)) p) ⌝ }
 {
     let mut rows = [0u8; 16];
     let mut count: usize = 0;
@@ -216,7 +216,7 @@ pub fn has_room(owner: &[u8; 512], p: u8) -> bool
     if 512 <= i {
         return false;
     }
-    let n = count_of(owner, p);
+    let n = active_count(owner, p);
     if n < 4 {
         return true;
     }

@@ -38,7 +38,7 @@ abbrev pub asked : Port → ℕ → ℕ → ℕ → Port
 asked x required preferred transaction =
     record { up = x .up; asking = true; delegation = x .delegation; required = required; preferred = preferred; transaction = transaction }
 
--- the record behind a change
+-- the record after a change
 unfoldable pub changedBy : Change → Port → Port
 changedBy Kept x = x
 changedBy BroughtUp x = broughtUp x

@@ -9,6 +9,6 @@ use Rattle.ports.specs.declared.Taken.{Taken}
 abbrev pub nextNumber : ℕ → ℕ
 nextNumber n = cond (leb 16777215 n) 1 (n + 1)
 
--- the number that the next message takes, and the counter behind it
+-- the number that the next message takes, and the counter after it
 abbrev pub takenFrom : Counter → Taken
 takenFrom c = record { number = c .number; next = record { number = nextNumber (c .number) } }

@@ -155,7 +155,7 @@ pub struct Taken {
 }
 
 impl Counter {
-    // The number for the next message that the card begins, and the counter behind it.
+    // The number for the next message that the card begins, and the counter after it.
     pub fn take(mut self) -> Taken
         ensures { λ r. ⌜ r ≡ takenFrom self ⌝ }
     {

@@ -1,7 +1,7 @@
--- Multicast-Flows that are written one directly behind the other.
+-- Multicast-Flows that are written one directly after the other.
 --     flows-turn       one flow more
 --     flows-most       each takes at most 40 octets
---     body-size        so many are the octets of a Target and the flows behind it
+--     body-size        so many are the octets of a Target and the flows after it
 -- Assumes nothing.
 use Prim.Native.Nat.{ℕ, _+_, _*_, _-_, _≤_, _<_}
 use mathlib.Core.Path.{_≡_, refl, sym, ap, _∙_}
@@ -12,7 +12,7 @@ use lib.ListN.{length, take, drop, getD, length-take, length-append}
 use lib.Seq.{take-suc}
 use borrow.Rule.Slice.PartMut.{putMid}
 use Rattle.octets.specs.Writing.{over, Wrote}
-use Rattle.octets.proofs.Writing.{lent-behind}
+use Rattle.octets.proofs.Writing.{lent-after}
 use Rattle.octets.specs.Numbers.{padded}
 use Rattle.writers.specs.Tlvs.{targetOf}
 use Rattle.writers.proofs.Tlvs.{length-target}
@@ -46,7 +46,7 @@ module _ (channels : List ℕ) where
       ∙ ap (flowTlvs channels) (sym (take-suc ks i 0 h))
       ∙ ap (λ (n : ℕ). flowTlvs channels (take n ks)) (sym (add-one i))
 
-  -- the flow of row i behind those before it: x is the buffer, y what comes back of the part that was lent
+  -- the flow of row i after those before it: x is the buffer, y what comes back of the part that was lent
   module _ (ks : List ℕ) {i at n : ℕ} {f : Flow} {x y l : List ℕ} (h : i < length ks) (inv : Wrote (flowTlvs channels (take i ks)) at l x)
       (e : f ≡ channelAt channels (getD ks i 0)) (w : Wrote (flowTlv f) n (take (length x - at) (drop at x)) y)
     where
@@ -57,10 +57,10 @@ module _ (channels : List ℕ) where
       flows-turn = record {
         size = omega (arith, inv .size, w .size, ap length tlv-is, length-append (flowTlvs channels (take i ks)) (flowTlv f));
         text =
-            lent-behind (flowTlvs channels (take i ks)) (flowTlv f) l at (inv .text) (sym (inv .size)) (w .text)
+            lent-after (flowTlvs channels (take i ks)) (flowTlv f) l at (inv .text) (sym (inv .size)) (w .text)
             ∙ ap (λ (v : List ℕ). over v l) tlv-is;
       }
 
--- the Target and the flows behind it
+-- the Target and the flows after it
 pub body-size : (id channels ks : List ℕ) (i : ℕ) → length (targetOf id ++ flowTlvs channels (take i ks)) ≤ 8 + padded (length id) + 40 * i
 body-size id channels ks i = omega (arith, length-target id, flows-most channels ks i, length-append (targetOf id) (flowTlvs channels (take i ks)))

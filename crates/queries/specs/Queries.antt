@@ -16,7 +16,7 @@ use Rattle.listing.specs.Listing.{rowsInOrder}
 unfoldable pub delegationQuery : List ℕ → Card → Header → ℕ → Outcome
 delegationQuery ids card h p = writes card (amountReply h (h .kind) 3 0 (idAt ids p) (portAt card p .delegation))
 
--- the Multicast-Flows of some channels, one directly behind the other
+-- the Multicast-Flows of some channels, one directly after the other
 unfoldable pub flowTlvs : List ℕ → List ℕ → List ℕ
 flowTlvs channels [] = []
 flowTlvs channels (k ∷ ks) = flowTlv (channelAt channels k) ++ flowTlvs channels ks

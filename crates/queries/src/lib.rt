@@ -20,7 +20,7 @@ pub fn query_delegation(ids: &[u8; 4096], terms: Terms, h: Header, reply: &mut [
     requires { ⌜ (4608 ≤ length (now reply)) × (terms .at < 64) ⌝ }
     ensures { λ r. ⌜ ((pool : Pool) → ComesTo (λ card. delegationQuery (now (ids .entry)) card h (terms .at)) (terms .at) terms pool pool r (now (reply .entry)) (now (reply .exit))) ⌝ }
 {
-    let x = terms.x;
+    let x = terms.port;
     let n = replies::put_amount(
         reply,
         h,
@@ -61,7 +61,7 @@ fn put_listing(reply: &mut [u8], h: Header, id: &[u8], channels: &[u32; 2816], r
     16 + n
 }
 
-// The flows directly behind the Target.
+// The flows directly after the Target.
 fn put_target_flows(buf: &mut [u8], id: &[u8], channels: &[u32; 2816], rows: Rows) -> usize
     requires { ⌜ (4592 ≤ length (now buf)) × (length (now id) < 64) × (rows .count ≤ 16) ⌝ }
     ensures { λ r. ⌜ Wrote (targetOf (now (id .entry)) ++ flowTlvs (now (channels .entry)) (take (rows .count) (rows .rows))) r (now (buf .entry)) (now (buf .exit)) ⌝ }

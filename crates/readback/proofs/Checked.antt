@@ -9,7 +9,7 @@ use lib.Dec.{eqb, leb}
 use borrow.Author.Tests.{le-leb, ne-eqb}
 use Rattle.octets.specs.Numbers.{be16, oct8, oct16, oct32, padded}
 use Rattle.tlv.specs.declared.Inside.the-variants.{Plain, Holds}
-use Rattle.tlv.specs.Depth.{statusInside, insideOf, entered, insideOk, listOk}
+use Rattle.tlv.specs.Depth.{statusInside, insideOf, heldOk, insideOk, listOk}
 use Rattle.tlv.proofs.Firsts.{first-end}
 use Rattle.tlv.proofs.Depth.{all-end, inside-bare, list-deeper}
 use Rattle.writers.specs.Tlvs.{tlvOf, bareOf, targetOf, holderOf, statusOf, commandOf, flowOf, allocationOf, requestOf, sequenceOf}
@@ -33,7 +33,7 @@ copy-passes : (d : ℕ) (b : Bool) (t : ℕ) (c : List ℕ) → insideOk (listOk
 copy-passes d b t c h = stands d b t c (any-bare (listOk d) b t c h)
 
 bare-passes : (d t : ℕ) → Stands (suc d) true (bareOf t)
-unfolding insideOk insideOf entered
+unfolding insideOk insideOf heldOk
 bare-passes d t = stands d true t [] refl
 
 -- a TLV that stands alone
@@ -41,7 +41,7 @@ pub alone : (d : ℕ) (b : Bool) (w : List ℕ) → Stands d b w → listOk d b 
 alone d b w f = ap (listOk d b) (sym (append-nil w)) ∙ f [] (none-passes d b)
 
 target-passes : (d : ℕ) (b : Bool) (id : List ℕ) → Stands (suc (suc d)) b (targetOf id)
-unfolding targetOf insideOk insideOf entered
+unfolding targetOf insideOk insideOf heldOk
 target-passes d b id = copy-passes (suc d) b 0x1000 (tlvOf 0x0001 id) (alone (suc d) false (tlvOf 0x0001 id) (copy-passes d false 0x0001 id refl))
 
 -- the TLVs of a Command, and of a Status-Info without a text, stand after 4 octets
@@ -51,15 +51,15 @@ module _ (d : ℕ) (b : Bool) (x y : ℕ) (inner : List ℕ) where
   four = le-leb 4 (length (oct8 x ++ oct8 y ++ oct16 0 ++ inner)) (simp length-append (omega arith))
 
   command-passes : listOk d false inner ≡ true → Stands (suc d) b (commandOf x y inner)
-  unfolding commandOf holderOf insideOk insideOf entered oct8 oct16
+  unfolding commandOf holderOf insideOk insideOf heldOk oct8 oct16
   command-passes h = copy-passes d b 0x0011 _ (rw four h)
 
   status-passes : listOk d true inner ≡ true → Stands (suc d) b (holderOf 0x0106 x y inner)
-  unfolding holderOf insideOk insideOf statusInside entered oct8 oct16
+  unfolding holderOf insideOk insideOf statusInside heldOk oct8 oct16
   status-passes h = copy-passes d b 0x0106 _ (rw four h)
 
 pub passes : Passes
-unfolding statusOf flowOf allocationOf requestOf sequenceOf insideOk insideOf entered
+unfolding statusOf flowOf allocationOf requestOf sequenceOf insideOk insideOf heldOk
 passes =
     record {
       none = none-passes;

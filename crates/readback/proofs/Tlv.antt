@@ -1,4 +1,4 @@
--- A TLV that is written reads back, with whatever stands behind it. Assumes nothing.
+-- A TLV that is written reads back, with whatever stands after it. Assumes nothing.
 use mathlib.Core.Path.{_≡_, refl, sym, ap, _∙_}
 use mathlib.Core.List.{List, [], _∷_, _++_, append-assoc, append-nil}
 use mathlib.Core.Bool.{Bool, true, _&&_}
@@ -47,7 +47,7 @@ module _ (t : ℕ) (c r : List ℕ) where
       ∙ ap (λ (w : List ℕ). item t w ∷ itemsOf (drop (4 + padded (length c)) (tlvOf t c ++ r))) content-back
       ∙ ap (λ (w : List ℕ). item t c ∷ itemsOf w) rest-back
 
-  -- a list that begins with a TLV that was written is in order where its inside is, and what stands behind it
+  -- a list that begins with a TLV that was written is in order where its inside is, and what stands after it
   pub list-back : (d : ℕ) (b : Bool) → listOk (suc d) b (tlvOf t c ++ r) ≡ (insideOk (listOk d) b t c && listOk (suc d) b r)
   unfolding listOk
   list-back d b =

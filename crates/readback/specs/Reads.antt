@@ -19,7 +19,7 @@ pub record MessageBack (h : Header) (body : List ℕ) : Type 0 where
   pub header : h .result < 16 → h .code < 4096 → h .transaction < 16777216 → headerIn (messageOf h body) ≡ h
   pub tlvs : drop 16 (messageOf h body) ≡ body
 
--- w is one TLV of type t; its content has the fields that are said; and whatever stands behind w reads as it would alone
+-- w is one TLV of type t; its content has the fields that are said; and whatever stands after w reads as it would alone
 pub record Reads (w : List ℕ) (t : ℕ) (Fields : List ℕ → Type 0) : Type 0 where
   pub content : List ℕ
   pub stands : (r : List ℕ) → itemsOf (w ++ r) ≡ item t content ∷ itemsOf r

@@ -1,6 +1,6 @@
 -- A walk over a list of TLVs by steps of a reader.
 --     step-end, step-broken, step-tlv    the TLVs from the place on, by what the step read there
---     step-fits                          the TLV lies in the list, and the next place behind it
+--     step-fits                          the TLV lies in the list, and the next place after it
 -- Assumes nothing.
 use mathlib.Core.Path.{_≡_, sym, ap, _∙_}
 use mathlib.Core.List.{List, [], _∷_}
@@ -29,12 +29,12 @@ module _ (s : List ℕ) (at : ℕ) {x : Step} (e : x ≡ stepAt s at) where
   step-broken g = items-broken (drop at s) read g
 
   module _ {t n m : ℕ} (g : x .first ≡ Tlv t n m) where
-    behind : at + m ≡ x .next
+    after : at + m ≡ x .next
     unfolding sizeOf
-    behind = after-is s at read g ∙ ap (λ (y : Step). y .next) (sym e)
+    after = after-is s at read g ∙ ap (λ (y : Step). y .next) (sym e)
 
     pub step-tlv : itemsOf (drop at s) ≡ item t (take n (drop (at + 4) s)) ∷ itemsOf (drop (x .next) s)
-    step-tlv = items-tlv (drop at s) read g ∙ rw (drop-drop 4 at s, drop-drop m at s, behind)
+    step-tlv = items-tlv (drop at s) read g ∙ rw (drop-drop 4 at s, drop-drop m at s, after)
 
     pub step-fits : (at + 4 + padded n ≡ x .next) × (x .next ≤ length s)
-    step-fits = let f = place-fits s at read g in omega (arith, f, behind)
+    step-fits = let f = place-fits s at read g in omega (arith, f, after)

@@ -7,13 +7,13 @@ use Rattle.reader.specs.declared.Reader.{Reader}
 use Rattle.reader.specs.declared.Step.{Step}
 
 -- a reader of a message at a place
-abbrev pub placed : RefT (List ℕ) → ℕ → Reader
-placed message at = record { message = message; at = at }
+abbrev pub readerAt : RefT (List ℕ) → ℕ → Reader
+readerAt message at = record { message = message; at = at }
 
--- the same message, behind what stands at the place
+-- the same message, after what stands at the place
 abbrev pub advanced : Reader → Reader
-advanced r = placed (r .message) (placeAfter (now (r .message)) (r .at))
+advanced r = readerAt (r .message) (placeAfter (now (r .message)) (r .at))
 
--- what stands at a place, and the place behind it
+-- what stands at a place, and the place after it
 abbrev pub stepAt : List ℕ → ℕ → Step
 stepAt s at = record { first = tlvAt s at; next = placeAfter s at }

@@ -3,7 +3,7 @@
 use tlv::First;
 ghost use mathlib.Core.Path.{_≡_};
 ghost use Rattle.items.specs.Place.{tlvAt};
-ghost use Rattle.reader.specs.Reader.{placed, advanced, stepAt};
+ghost use Rattle.reader.specs.Reader.{readerAt, advanced, stepAt};
 
 pub struct Reader<'a> {
     pub message: &'a [u8],
@@ -11,7 +11,7 @@ pub struct Reader<'a> {
 }
 
 pub fn reader_at<'a>(message: &'a [u8], at: usize) -> Reader<'a>
-    ensures { λ r. ⌜ r ≡ placed (message .entry) at ⌝ }
+    ensures { λ r. ⌜ r ≡ readerAt (message .entry) at ⌝ }
 {
     Reader { message, at }
 }
@@ -23,7 +23,7 @@ pub fn next<'a>(r: Reader<'a>) -> First
     items::tlv_at(r.message, r.at)
 }
 
-// The reader behind what stands at its place.
+// The reader after what stands at its place.
 pub fn advance<'a>(r: Reader<'a>) -> Reader<'a>
     ensures { λ q. ⌜ q ≡ advanced (r .entry) ⌝ }
 {

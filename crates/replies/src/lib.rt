@@ -1,4 +1,4 @@
-// Whole replies, written into a lent buffer: what a header counts is written first, behind it.
+// Whole replies, written into a lent buffer: what a header counts is written first, in its place after the header.
 use header::Header;
 ghost use mathlib.Core.Path.{_≡_};
 ghost use mathlib.Core.List.{[], _++_};
@@ -68,7 +68,7 @@ pub fn refuse_target(reply: &mut [u8], h: Header, code: u16, id: &[u8]) -> usize
     24 + n
 }
 
-// The header and the head of a Status-Info before n octets of TLVs, which stand behind them already.
+// The header and the head of a Status-Info before n octets of TLVs, which stand after them already.
 pub fn put_refusal(reply: &mut [u8], h: Header, code: u16, n: usize)
     requires { ⌜ (24 ≤ length (now reply)) × (n < 65516) ⌝ }
     ensures { λ _. ⌜ now (reply .exit) ≡ over (refusalHead h code n) (now (reply .entry)) ⌝ }
@@ -94,7 +94,7 @@ pub fn put_amount(
     16 + n
 }
 
-// The Bandwidth-Allocation directly behind the Target.
+// The Bandwidth-Allocation directly after the Target.
 fn put_target_amount(buf: &mut [u8], id: &[u8], amount: u32) -> usize
     requires { ⌜ (4592 ≤ length (now buf)) × (length (now id) ≤ 4096) ⌝ }
     ensures { λ r. ⌜ Wrote (targetOf (now (id .entry)) ++ allocationOf amount) r (now (buf .entry)) (now (buf .exit)) ⌝ }

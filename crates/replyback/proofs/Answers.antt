@@ -18,8 +18,8 @@ use Rattle.channels.specs.Channels.{channelAt}
 use Rattle.writers.specs.Tlvs.{targetOf, commandOf, requestOf, allocationOf}
 use Rattle.replies.specs.Replies.{replyHeader, beginHeader, successOf, amountReply}
 use Rattle.begun.specs.Begun.{admissionOf, reallocationOf}
-use Rattle.commands.specs.Orders.{flowsAsked, flowCount, flowContent, shapeOk, flowOrder, orderOf}
-use Rattle.commands.specs.Orders.Order.{add}
+use Rattle.commands.specs.Directives.{flowsAsked, flowCount, flowContent, shapeOk, flowDirective, directiveOf}
+use Rattle.commands.specs.Directives.Directive.{add}
 use Rattle.queries.specs.Queries.{flowTlvs, flowsReply}
 use Rattle.readback.proofs.Tlv.{items-none, items-back, items-last}
 use Rattle.readback.proofs.Fields.{read-back}
@@ -68,8 +68,8 @@ module _ (transaction : ℕ) (id : List ℕ) (f : Flow) (ht : transaction < 1677
   unfolding shapeOk flowsAsked every
   shape = rw (command-is, flow-counts)
 
-  order-is : orderOf command ≡ add f 0
-  unfolding orderOf flowOrder
+  order-is : directiveOf command ≡ add f 0
+  unfolding directiveOf flowDirective
   order-is = rw (shape, command-is, flow-is, b .formed, b .named, good)
 
   admission-back : Admits (admissionOf transaction id f) transaction id f
@@ -178,7 +178,7 @@ kinds-back =
       reallocation = reallocation-back;
       success = success-back;
       rows = rows-back;
-      failure = λ h code id number s c front behind ht hc hs e. failure-back h s ht code id number c front behind hc hs e;
+      failure = λ h code id number s c front after ht hc hs e. failure-back h s ht code id number c front after hc hs e;
       amount = amount-back;
       listing = listing-back;
     }

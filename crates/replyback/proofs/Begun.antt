@@ -22,7 +22,7 @@ use Rattle.card.specs.Cards.{Card, hasPort, portAt}
 use Rattle.card.specs.Outcome.{Outcome}
 use Rattle.joins.specs.Joins.{admitNumber, whiteOf, greyOf, byList, joinRow, joinOf}
 use Rattle.joins.specs.Asks.{askedOf, askOf}
-use Rattle.replyback.specs.Every.{MayWrite, Joins, Asks, EveryReply}
+use Rattle.replyback.specs.Every.{MayWrite, JoinBegins, AskBegins, EveryReply}
 use Rattle.replyback.specs.Every.MayWrite.{silent, written}
 use Rattle.replyback.proofs.Cases.{by-cond}
 use Rattle.replyback.proofs.Answers.{kinds-back}
@@ -33,7 +33,7 @@ module _ (ids : List ℕ) (card : Card) (p : ℕ) (ht : card .head .counter .num
   -- ---- join
   module _ (f : Flow) (lg : length (f .group) ≡ 4) (ls : length (f .source) ≡ 4) (channels entries : List ℕ) where
     abbrev ByJoin : Outcome → Type 0
-    ByJoin = MayWrite (Joins ids card p f)
+    ByJoin = MayWrite (JoinBegins ids card p f)
 
     white-begins : (k : ℕ) → ByJoin (whiteOf channels card p k)
     unfolding whiteOf
@@ -57,10 +57,10 @@ module _ (ids : List ℕ) (card : Card) (p : ℕ) (ht : card .head .counter .num
     row-begins good (At k) =
         by-cond ByJoin (isActive (card .pool) p k) _ _ (λ _. silent refl) (λ _. list-begins good k (listDecision entries (card .head .«entry_count») f))
 
-    join-begins : (room : ℕ) → ByJoin (joinOf ids channels entries card p f room)
+    join-begins : (space : ℕ) → ByJoin (joinOf ids channels entries card p f space)
     unfolding joinOf
-    join-begins room =
-        by-cond ByJoin (ltb room 4608) _ _ (λ _. silent refl)
+    join-begins space =
+        by-cond ByJoin (ltb space 4608) _ _ (λ _. silent refl)
         (λ _. by-cond ByJoin (hasPort card p) _ _
         (λ _. by-cond ByJoin (portAt card p .up) _ _
         (λ _. by-cond ByJoin (goodFlow f) _ _ (λ good. row-begins good (channelOf channels (card .head .«channel_count») f)) (λ _. silent refl))
@@ -70,7 +70,7 @@ module _ (ids : List ℕ) (card : Card) (p : ℕ) (ht : card .head .counter .num
   -- ---- ask
   module _ (required preferred : ℕ) where
     abbrev ByAsk : Outcome → Type 0
-    ByAsk = MayWrite (Asks ids card p required preferred)
+    ByAsk = MayWrite (AskBegins ids card p required preferred)
 
     asked-begins : ByAsk (askedOf ids card p required preferred)
     unfolding askedOf
@@ -80,10 +80,10 @@ module _ (ids : List ℕ) (card : Card) (p : ℕ) (ht : card .head .counter .num
           omega (arith, sizes .short (idAt ids p) (id-short ids p) .reallocation (card .head .counter .number) required preferred),
         )
 
-    ask-begins : (room : ℕ) → ByAsk (askOf ids card p required preferred room)
+    ask-begins : (space : ℕ) → ByAsk (askOf ids card p required preferred space)
     unfolding askOf
-    ask-begins room =
-        by-cond ByAsk (ltb room 4608) _ _ (λ _. silent refl)
+    ask-begins space =
+        by-cond ByAsk (ltb space 4608) _ _ (λ _. silent refl)
         (λ _. by-cond ByAsk (hasPort card p) _ _
         (λ _. by-cond ByAsk (portAt card p .up) _ _
         (λ _. by-cond ByAsk (mayAsk (portAt card p) required preferred) _ _ (λ _. asked-begins) (λ _. silent refl))
@@ -94,6 +94,6 @@ pub every-reply : EveryReply
 every-reply =
     record {
       message = message-answers;
-      join = λ ids channels entries card p f room ht lg ls. join-begins ids card p ht f lg ls channels entries room;
-      ask = λ ids card p required preferred room ht. ask-begins ids card p ht required preferred room;
+      join = λ ids channels entries card p f space ht lg ls. join-begins ids card p ht f lg ls channels entries space;
+      ask = λ ids card p required preferred space ht. ask-begins ids card p ht required preferred space;
     }

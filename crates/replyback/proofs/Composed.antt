@@ -1,5 +1,5 @@
 -- A message from its TLVs, and a refusal from the TLVs that it encloses: what each single TLV reads as is known, here they are put one
--- behind the other. Assumes nothing.
+-- after the other. Assumes nothing.
 use mathlib.Core.Path.{_≡_, sym, ap, _∙_}
 use mathlib.Core.List.{List, [], _∷_, _++_, append-nil}
 use mathlib.Core.Bool.{Bool, true, false, cond, _||_}

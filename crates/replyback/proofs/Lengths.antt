@@ -128,13 +128,13 @@ module _ (h : Header) (s : List ℕ) where
         fault = simp refusal-length (omega (arith, copy-fits (faults (h .kind) s), faults-fit (singleOf (h .kind)) false false (itemsOf s), total-fits s));
         unknown = target-row 0x500;
         down = target-row 0x6;
-        failure = λ code number c front behind k e.
+        failure = λ code number c front after k e.
             omega (
               arith,
               failure-length h code (idIn s) number c,
               id-in-target k,
               first-fits 0x1000 (itemsOf s) (target-there k),
-              among-fits front c behind,
+              among-fits front c after,
               ap total e,
               two-types 0x1000 0x0011 (λ x. omega arith) (itemsOf s),
               total-fits s,

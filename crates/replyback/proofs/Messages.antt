@@ -130,15 +130,15 @@ module _ (m : List ℕ) (octets : Octets m) (lo : 16 ≤ length m) (hi : length 
         (λ _. silent refl)
 
     module _ (ok : listOk 3 false s ≡ true) (one : circuitIds (firstOf 0x1000 (itemsOf s)) ≡ 1) (same : idAt ids p ≡ idIn s) where
-      failure-answers : (card : Card) (code number : ℕ) (c : List ℕ) (front behind : List (List ℕ)) → code < 4096
-          → commandsIn s ≡ front ++ (c ∷ behind)
+      failure-answers : (card : Card) (code number : ℕ) (c : List ℕ) (front after : List (List ℕ)) → code < 4096
+          → commandsIn s ≡ front ++ (c ∷ after)
           → Replies m (writes card (failureOf h code (idAt ids p) number c))
-      failure-answers card code number c front behind k e =
-          answered _ (inr refl) (kinds-back .failure h code (idAt ids p) number s c front behind transaction-fits k ok e .refuses .says)
+      failure-answers card code number c front after k e =
+          answered _ (inr refl) (kinds-back .failure h code (idAt ids p) number s c front after transaction-fits k ok e .refuses .says)
           (omega (
             arith,
             ap (λ (id : List ℕ). length (failureOf h code id number c)) same,
-            sizes .rows h s .failure code number c front behind (omega (arith, one)) e,
+            sizes .rows h s .failure code number c front after (omega (arith, one)) e,
           ))
 
       commands-answer : (card : Card) (number : ℕ) (front cs : List (List ℕ)) → commandsIn s ≡ front ++ cs
@@ -218,11 +218,11 @@ module _ (m : List ℕ) (octets : Octets m) (lo : 16 ≤ length m) (hi : length 
     head-answers =
         by-cond (λ (x : Head). Replies m (byHead ids channels card m x)) (usable m) _ _ (λ _. result-answers) (λ _. silent refl)
 
-pub message-answers : (ids channels : List ℕ) (card : Card) (m : List ℕ) (room : ℕ) → Octets m
-    → Replies m (receivedOf ids channels card m room)
+pub message-answers : (ids channels : List ℕ) (card : Card) (m : List ℕ) (space : ℕ) → Octets m
+    → Replies m (receivedOf ids channels card m space)
 unfolding receivedOf sizeOk
-message-answers ids channels card m room octets =
-    by-cond (Replies m) (ltb room 4608) _ _ (λ _. silent refl)
+message-answers ids channels card m space octets =
+    by-cond (Replies m) (ltb space 4608) _ _ (λ _. silent refl)
     (λ _. by-cond (Replies m) (sizeOk m) _ _
     (λ z. let b = each (leb 16 (length m) ∷ leb (length m) 4096 ∷ []) z in
     head-answers m octets (leb-true _ _ (b .0)) (leb-true _ _ (b .1 .0)) ids channels card)

@@ -24,10 +24,10 @@ use Rattle.pool.specs.Pool.{isActive, hasFlow, rowsOf}
 use Rattle.card.specs.Cards.{Card}
 use Rattle.joins.specs.Joins.{admitNumber}
 use Rattle.listing.specs.Listing.{rowBefore, placed, placedAll, inOrder, rowsInOrder}
-use Rattle.checks.specs.Named.{beside, needed, missing, fromFault}
-use Rattle.commands.specs.Commands.{Ran, addNew, addRow, deleteFlow, obeyed, ranOf}
-use Rattle.commands.specs.Orders.{Order, shapeOk, flowContent, flowOrder, orderOf}
-use Rattle.commands.specs.Orders.Order.{ill}
+use Rattle.checks.specs.Named.{alsoNeeded, needed, missing, fromFault}
+use Rattle.commands.specs.Commands.{Ran, addNew, addRow, deleteFlow, carriedOut, ranOf}
+use Rattle.commands.specs.Directives.{Directive, shapeOk, flowContent, flowDirective, directiveOf}
+use Rattle.commands.specs.Directives.Directive.{malformed}
 use Rattle.replyback.proofs.Cases.{by-cond}
 
 -- ---- no type is missing: a Target stands
@@ -40,7 +40,7 @@ unfolding missing
 first-stands t ts is z = stands-by t (missing ts is) (countOf t is) (eqb (countOf t is) 0) refl z
 
 pub target-stands : (kind : ℕ) (is : List Item) → length (missing (needed kind) is) ≡ 0 → 0 < countOf 0x1000 is
-target-stands kind is = first-stands 0x1000 (beside kind) is
+target-stands kind is = first-stands 0x1000 (alsoNeeded kind) is
 
 -- ---- none is at fault: the Target has one circuit id
 rest-by : (a b : Bool) (i : Item) (is ks js : List Item) {R : Type 0} → (length ks ≡ 0 → R) → (length js ≡ 0 → R)
@@ -82,30 +82,30 @@ module _ (channels : List ℕ) (card : Card) (p : ℕ) where
   unfolding deleteFlow
   delete-code f = by-cond Small (hasFlow channels (card .pool) p f) _ _ (λ _. omega arith) (λ _. omega arith)
 
-  Fits : Order → Type 0
-  Fits o = obeyed channels card p o .code < 4096
+  Fits : Directive → Type 0
+  Fits o = carriedOut channels card p o .code < 4096
 
-  ill-code : (code : ℕ) → code < 4096 → Fits (ill code)
-  unfolding Fits obeyed
-  ill-code code h = h
+  malformed-code : (code : ℕ) → code < 4096 → Fits (malformed code)
+  unfolding Fits carriedOut
+  malformed-code code h = h
 
-  flow-code : (code accounting : ℕ) (c : List ℕ) → Fits (flowOrder code accounting c)
-  unfolding flowOrder Fits obeyed
+  flow-code : (code accounting : ℕ) (c : List ℕ) → Fits (flowDirective code accounting c)
+  unfolding flowDirective Fits carriedOut
   flow-code code accounting c =
       by-cond Fits (flowFormed c) _ _
       (λ _. by-cond Fits (goodFlow (flowNamed c)) _ _
       (λ _. by-cond Fits (eqb code 1) _ _
       (λ _. add-code accounting (channelOf channels (card .head .«channel_count») (flowNamed c)))
       (λ _. delete-code (flowNamed c)))
-      (λ _. ill-code 0x65 (omega arith)))
-      (λ _. ill-code 0x55 (omega arith))
+      (λ _. malformed-code 0x65 (omega arith)))
+      (λ _. malformed-code 0x55 (omega arith))
 
   pub code-fits : (c : List ℕ) → ranOf channels card p c .code < 4096
-  unfolding orderOf Fits obeyed
+  unfolding directiveOf Fits carriedOut
   code-fits c =
       by-cond Fits (shapeOk c) _ _
       (λ _. by-cond Fits (eqb (commandIn c .code) 3) _ _ (λ _. omega arith) (λ _. flow-code (commandIn c .code) (commandIn c .accounting) (flowContent c)))
-      (λ _. ill-code 0x64 (omega arith))
+      (λ _. malformed-code 0x64 (omega arith))
 
 -- ---- a port's rows
 module _ (before : ℕ → ℕ → Bool) where

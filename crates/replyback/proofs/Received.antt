@@ -46,13 +46,13 @@ module _ (ok : ℕ → List ℕ → Bool) where
   of-ok t [] h = tt
   of-ok t (i ∷ is) h = of-by t (eqb (i .kind) t) i (ofType t is) refl (h .0) (of-ok t is (h .1))
 
-  among : (t : ℕ) (front : List (List ℕ)) (c : List ℕ) (behind : List (List ℕ)) → EachOf t (front ++ (c ∷ behind)) → ok t c ≡ true
-  among t [] c behind h = h .0
-  among t (x ∷ front) c behind h = among t front c behind (h .1)
+  among : (t : ℕ) (front : List (List ℕ)) (c : List ℕ) (after : List (List ℕ)) → EachOf t (front ++ (c ∷ after)) → ok t c ≡ true
+  among t [] c after h = h .0
+  among t (x ∷ front) c after h = among t front c after (h .1)
 
-  pub one-ok : (t : ℕ) (is : List Item) (front : List (List ℕ)) (c : List ℕ) (behind : List (List ℕ))
-      → EachOk ok is → ofType t is ≡ front ++ (c ∷ behind) → ok t c ≡ true
-  one-ok t is front c behind h e = among t front c behind (rw e at (of-ok t is h))
+  pub one-ok : (t : ℕ) (is : List Item) (front : List (List ℕ)) (c : List ℕ) (after : List (List ℕ))
+      → EachOk ok is → ofType t is ≡ front ++ (c ∷ after) → ok t c ≡ true
+  one-ok t is front c after h e = among t front c after (rw e at (of-ok t is h))
 
   -- ---- those from the first one at fault on
   ok-by : (b : Bool) (is js : List Item) → EachOk ok is → EachOk ok js → EachOk ok (cond b is js)

@@ -74,9 +74,9 @@ module _ (h : Header) (s : List ℕ) (ht : h .transaction < 16777216) where
       }
 
   -- ---- a failed command
-  module _ (code : ℕ) (id : List ℕ) (number : ℕ) (c : List ℕ) (front behind : List (List ℕ)) (hc : code < 4096)
-      (hs : listOk 3 false s ≡ true) (e : commandsIn s ≡ front ++ (c ∷ behind)) where
-    -- Target, and behind it the two others
+  module _ (code : ℕ) (id : List ℕ) (number : ℕ) (c : List ℕ) (front after : List (List ℕ)) (hc : code < 4096)
+      (hs : listOk 3 false s ≡ true) (e : commandsIn s ≡ front ++ (c ∷ after)) where
+    -- Target, and after it the two others
     abbrev parts : List ℕ
     parts = targetOf id ++ (sequenceOf number ++ tlvOf 0x0011 c)
 
@@ -86,7 +86,7 @@ module _ (h : Header) (s : List ℕ) (ht : h .transaction < 16777216) where
     parts-pass : listOk 3 true parts ≡ true
     parts-pass =
         passes .target 1 true id _ (passes .sequence 2 true number _ (alone 3 true _ (passes .copy 2 true 0x0011 c
-        (one-ok (insideOk (listOk 2) false) 0x0011 (itemsOf s) front c behind (insides-ok 2 s hs) e))))
+        (one-ok (insideOk (listOk 2) false) 0x0011 (itemsOf s) front c after (insides-ok 2 s hs) e))))
 
     pub failure-back : Fails (failureOf h code id number c) h code id number c
     unfolding failureOf

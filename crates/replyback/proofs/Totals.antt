@@ -70,10 +70,10 @@ module _ (t u : ℕ) (d : t ≡ u → ⊥) where
       (λ x y. d (sym (eqb-true (i .kind) t x) ∙ eqb-true (i .kind) u y)) (two-types is)
 
 -- ---- of one among those of a type, and of the first
-pub among-fits : (front : List (List ℕ)) (c : List ℕ) (behind : List (List ℕ)) → 4 + padded (length c) ≤ total (front ++ (c ∷ behind))
+pub among-fits : (front : List (List ℕ)) (c : List ℕ) (after : List (List ℕ)) → 4 + padded (length c) ≤ total (front ++ (c ∷ after))
 unfolding total
-among-fits [] c behind = omega arith
-among-fits (x ∷ front) c behind = omega (arith, among-fits front c behind)
+among-fits [] c after = omega arith
+among-fits (x ∷ front) c after = omega (arith, among-fits front c after)
 
 head-fits : (cs : List (List ℕ)) → 0 < length cs → 4 + padded (length (getD cs 0 [])) ≤ total cs
 unfolding total

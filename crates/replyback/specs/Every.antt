@@ -38,18 +38,18 @@ abbrev pub Octets : List ℕ → Type 0
 Octets m = (i : ℕ) → getD m i 0 < 256
 
 -- w as what a join, and an ask, begins on port p
-abbrev pub Joins : List ℕ → Card → ℕ → Flow → List ℕ → Type 0
-Joins ids card p f w = Admits w (card .head .counter .number) (idAt ids p) f × (length w ≤ 136)
+abbrev pub JoinBegins : List ℕ → Card → ℕ → Flow → List ℕ → Type 0
+JoinBegins ids card p f w = Admits w (card .head .counter .number) (idAt ids p) f × (length w ≤ 136)
 
-abbrev pub Asks : List ℕ → Card → ℕ → ℕ → ℕ → List ℕ → Type 0
-Asks ids card p required preferred w = Requests w (card .head .counter .number) (idAt ids p) required preferred × (length w ≤ 100)
+abbrev pub AskBegins : List ℕ → Card → ℕ → ℕ → ℕ → List ℕ → Type 0
+AskBegins ids card p required preferred w = Requests w (card .head .counter .number) (idAt ids p) required preferred × (length w ≤ 100)
 
 -- the number of a message that is begun fits its field, and an address has four words
 pub record EveryReply : Type 0 where
-  pub message : (ids channels : List ℕ) (card : Card) (m : List ℕ) (room : ℕ) → Octets m
-      → MayWrite (Answer m) (receivedOf ids channels card m room)
-  pub join : (ids channels entries : List ℕ) (card : Card) (p : ℕ) (f : Flow) (room : ℕ) → card .head .counter .number < 16777216
+  pub message : (ids channels : List ℕ) (card : Card) (m : List ℕ) (space : ℕ) → Octets m
+      → MayWrite (Answer m) (receivedOf ids channels card m space)
+  pub join : (ids channels entries : List ℕ) (card : Card) (p : ℕ) (f : Flow) (space : ℕ) → card .head .counter .number < 16777216
       → length (f .group) ≡ 4 → length (f .source) ≡ 4
-      → MayWrite (Joins ids card p f) (joinOf ids channels entries card p f room)
-  pub ask : (ids : List ℕ) (card : Card) (p required preferred room : ℕ) → card .head .counter .number < 16777216
-      → MayWrite (Asks ids card p required preferred) (askOf ids card p required preferred room)
+      → MayWrite (JoinBegins ids card p f) (joinOf ids channels entries card p f space)
+  pub ask : (ids : List ℕ) (card : Card) (p required preferred space : ℕ) → card .head .counter .number < 16777216
+      → MayWrite (AskBegins ids card p required preferred) (askOf ids card p required preferred space)

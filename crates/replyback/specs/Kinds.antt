@@ -17,8 +17,8 @@ use Rattle.replies.specs.Replies.{replyHeader, beginHeader, successOf, amountRe
 use Rattle.begun.specs.Begun.{admissionOf, reallocationOf}
 use Rattle.checks.specs.Named.{needed}
 use Rattle.checks.specs.Table.{idIn, faults, refusedOf}
-use Rattle.commands.specs.Orders.{orderOf}
-use Rattle.commands.specs.Orders.Order.{add}
+use Rattle.commands.specs.Directives.{directiveOf}
+use Rattle.commands.specs.Directives.Directive.{add}
 use Rattle.control.specs.Control.{commandsIn, failureOf}
 use Rattle.queries.specs.Queries.{flowsReply}
 use Rattle.replyback.specs.Says.{Says, Names, Refuses, absent}
@@ -37,7 +37,7 @@ pub record Admits (w : List ℕ) (transaction : ℕ) (id : List ℕ) (f : Flow) 
   pub formed : flowFormed flow ≡ true
   pub named : flowNamed flow ≡ f
   -- as a Command of a 144 it would be an Add of f
-  pub order : orderOf command ≡ add f 0
+  pub order : directiveOf command ≡ add f 0
 
 -- Bandwidth Reallocation Request (146): Target, Bandwidth-Request
 pub record Requests (w : List ℕ) (transaction : ℕ) (id : List ℕ) (required preferred : ℕ) : Type 0 where
@@ -117,9 +117,9 @@ pub record KindsBack : Type 0 where
   pub success : (h : Header) → h .transaction < 16777216 → Says (successOf h) (replyHeader h 91 3 0) []
   pub rows : (h : Header) (s : List ℕ) → h .transaction < 16777216 → RowsBack h s
   -- c is one of the Commands of a message whose TLVs passed the check
-  pub failure : (h : Header) (code : ℕ) (id : List ℕ) (number : ℕ) (s c : List ℕ) (front behind : List (List ℕ))
+  pub failure : (h : Header) (code : ℕ) (id : List ℕ) (number : ℕ) (s c : List ℕ) (front after : List (List ℕ))
       → h .transaction < 16777216 → code < 4096
-      → listOk 3 false s ≡ true → commandsIn s ≡ front ++ (c ∷ behind) → Fails (failureOf h code id number c) h code id number c
+      → listOk 3 false s ≡ true → commandsIn s ≡ front ++ (c ∷ after) → Fails (failureOf h code id number c) h code id number c
   pub amount : (h : Header) (kind result code : ℕ) (id : List ℕ) (amount : ℕ) → h .transaction < 16777216 → result < 16 → code < 4096
       → Carries (amountReply h kind result code id amount) (replyHeader h kind result code) id amount
   pub listing : (h : Header) (id channels ks : List ℕ) → h .transaction < 16777216 → Good channels ks

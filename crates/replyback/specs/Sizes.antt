@@ -33,8 +33,8 @@ pub record RowSizes (h : Header) (s : List ℕ) : Type 0 where
   pub unknown : length (refusedOf h s 0x500) ≤ 24 + max 8 (length s)
   pub down : length (refusedOf h s 0x6) ≤ 24 + max 8 (length s)
   -- a failed command whose Target and Command came in one message: 16 octets more than that
-  pub failure : (code number : ℕ) (c : List ℕ) (front behind : List (List ℕ))
-      → 0 < circuitIds (firstOf 0x1000 (itemsOf s)) → commandsIn s ≡ front ++ (c ∷ behind)
+  pub failure : (code number : ℕ) (c : List ℕ) (front after : List (List ℕ))
+      → 0 < circuitIds (firstOf 0x1000 (itemsOf s)) → commandsIn s ≡ front ++ (c ∷ after)
       → length (failureOf h code (idIn s) number c) ≤ 32 + length s
 
 pub record Sizes : Type 0 where

@@ -18,7 +18,7 @@ use lib.Dec.{leb, ltb}
 use borrow.Author.Tests.{not-true, ltb-true, ltb-false, le-leb, lt-leb, leb-true}
 use Rattle.octets.specs.Tests.{every}
 use Rattle.octets.proofs.Tests.{both, each, every-by, false-by}
-use Rattle.rows.specs.Rows.{firstFrom, firstOf, allOf, noneOf, rowsOk, isNothing}
+use Rattle.rows.specs.Rows.{firstFrom, firstRow, allOf, noneOf, rowsOk, isNothing}
 use Rattle.rows.specs.declared.Found.{Found}
 use Rattle.rows.specs.declared.Found.the-variants.{At, Nothing}
 
@@ -37,8 +37,8 @@ module _ (test : ℕ → Bool) (i n : ℕ) {r : Found} (inv : r ≡ firstFrom i 
   first-end h = let e : n - i ≡ 0 = omega arith in sym (inv ∙ ap (λ (k : ℕ). firstFrom i k test) e)
 
 -- it begins with none passed, where r rows are to be searched
-pub first-start : (test : ℕ → Bool) {r n : ℕ} → r ≡ n → firstOf n test ≡ firstFrom 0 (r - 0) test
-unfolding firstOf
+pub first-start : (test : ℕ → Bool) {r n : ℕ} → r ≡ n → firstRow n test ≡ firstFrom 0 (r - 0) test
+unfolding firstRow
 first-start test {r} e = let z : r ≡ r - 0 = omega arith in ap (λ (k : ℕ). firstFrom 0 k test) (sym e ∙ z)
 
 -- ---- what is found
@@ -88,23 +88,23 @@ module _ (test : ℕ → Bool) where
       go false t e ih = ⊎-elim (λ (s : i ≡ j). ap test (sym s) ∙ t) (λ (l : i < j). ih e l) (eq-or-lt-of-le p)
 
   module _ (n : ℕ) where
-    pub found-at : {k : ℕ} → firstOf n test ≡ At k → FoundAt n test k
-    unfolding firstOf
+    pub found-at : {k : ℕ} → firstRow n test ≡ At k → FoundAt n test k
+    unfolding firstRow
     found-at {k} e =
         let f = from-at 0 n k e in record { below = omega (arith, f .1); passes = f .2; first = λ j l. f .3 j (omega arith) l }
 
-    pub found-none : firstOf n test ≡ Nothing → (j : ℕ) → j < n → test j ≡ false
-    unfolding firstOf
+    pub found-none : firstRow n test ≡ Nothing → (j : ℕ) → j < n → test j ≡ false
+    unfolding firstRow
     found-none e j l = from-none 0 n e j (omega arith) (omega arith)
 
     -- a row that passes is found, or one before it
-    pub found-some : (k : ℕ) → k < n → test k ≡ true → firstOf n test ≡ Nothing → ⊥
+    pub found-some : (k : ℕ) → k < n → test k ≡ true → firstRow n test ≡ Nothing → ⊥
     found-some k l t e = false≢true (sym (found-none e k l) ∙ t)
 
-    pub found-is : (k : ℕ) → FoundAt n test k → firstOf n test ≡ At k
-    found-is k f = go (firstOf n test) refl
+    pub found-is : (k : ℕ) → FoundAt n test k → firstRow n test ≡ At k
+    found-is k f = go (firstRow n test) refl
       where
-        go : (r : Found) → firstOf n test ≡ r → firstOf n test ≡ At k
+        go : (r : Found) → firstRow n test ≡ r → firstRow n test ≡ At k
         go Nothing e = absurd (found-some k (f .below) (f .passes) e)
         go (At j) e =
             let g = found-at e in
@@ -140,11 +140,11 @@ unfolding noneOf
 none-at n test e k l = not-true (test k) (all-at n (λ i. not (test i)) e k l)
 
 -- a search finds nothing where none passes
-pub nothing-none : (n : ℕ) (test : ℕ → Bool) → isNothing (firstOf n test) ≡ noneOf n test
+pub nothing-none : (n : ℕ) (test : ℕ → Bool) → isNothing (firstRow n test) ≡ noneOf n test
 unfolding noneOf
-nothing-none n test = go (firstOf n test) refl
+nothing-none n test = go (firstRow n test) refl
   where
-    go : (r : Found) → firstOf n test ≡ r → isNothing r ≡ allOf n (λ i. not (test i))
+    go : (r : Found) → firstRow n test ≡ r → isNothing r ≡ allOf n (λ i. not (test i))
     go Nothing e = sym (all-by n (λ i. not (test i)) (λ k l. ap not (found-none test n e k l)))
     go (At k) e = let f = found-at test n e in all-off n (λ i. not (test i)) k (f .below) (ap not (f .passes))
 

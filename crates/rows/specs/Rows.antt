@@ -14,8 +14,8 @@ firstFrom i zero test = Nothing
 firstFrom i (suc n) test = cond (test i) (At i) (firstFrom (suc i) n test)
 
 -- the first of n rows that passes the test
-unfoldable pub firstOf : ℕ → (ℕ → Bool) → Found
-firstOf n test = firstFrom 0 n test
+unfoldable pub firstRow : ℕ → (ℕ → Bool) → Found
+firstRow n test = firstFrom 0 n test
 
 -- each of n rows passes the test
 unfoldable pub allOf : ℕ → (ℕ → Bool) → Bool

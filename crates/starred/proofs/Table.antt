@@ -6,7 +6,7 @@ use Rattle.octets.specs.Tests.{every}
 use Rattle.header.specs.Header.{sizeOk, usable, headerIn, headIn, headerOf, messageOf}
 use Rattle.tlv.specs.First.{firstTlv}
 use Rattle.tlv.specs.Fold.{foldBy, foldUpTo, foldTlvs}
-use Rattle.tlv.specs.Depth.{insideOf, entered, insideOk, allTlvs, listOk}
+use Rattle.tlv.specs.Depth.{insideOf, heldOk, insideOk, allTlvs, listOk}
 use Rattle.items.specs.Items as items
 use Rattle.fields.specs.Fields.{requestIn, lengthOk}
 use Rattle.writers.specs.Tlvs.{tlvOf, targetOf, allocationOf, requestOf}
@@ -29,28 +29,28 @@ use Rattle.begun.specs.Begun.{reallocationOf}
 use Rattle.joins.specs.Joins.{fits, admitNumber, whiteOf, byList, joinRow, joinOf}
 use Rattle.joins.specs.Asks.{askedOf, askOf}
 use Rattle.listing.specs.Listing.{activeRow, activeAt}
-use Rattle.checks.specs.Named.{beside, missing, singleOf, fromFault}
+use Rattle.checks.specs.Named.{alsoNeeded, missing, singleOf, fromFault}
 use Rattle.checks.specs.Table.{handled, resultOk, idIn, located, namedRows, tableOf}
 use Rattle.transfers.specs.Transfers.{reducedTo, transferFails, transferGives, reallocated}
 use Rattle.messages.specs.Messages.{isAnswer, isNotice, byType, requested, byResult, byHead, receivedOf}
 use Rattle.demand3.specs.Calls.{outcomeOf, startedOf, byCall}
 use Rattle.demand3.specs.Reads.{tlvsIn, amountIn}
-use Rattle.starred.specs.Givens.{idRow, groupAt, channelsFrom, rates, tables, upWith, ownersFrom, channelsIn, poolOf, cardWith, many, committed3000, committed3500, crowded, flow, joins, asks, requests}
-use Rattle.starred.specs.Starred.{shownBy, shown, rows, Starred}
+use Rattle.starred.specs.Givens.{idRow, groupAt, channelsFrom, rates, tables, upWith, ownersFrom, channelsIn, poolWith, cardWith, many, committed3000, committed3500, crowded, groupFlow, joinCall, askCall, requestCall}
+use Rattle.starred.specs.Starred.{shownBy, shown, caseRows, Starred}
 
 pub table : Starred
 unfolding flatMap every mapTo sumTo
-    places.firstFrom places.firstOf places.allOf places.noneOf places.rowsOk
+    places.firstFrom places.firstRow places.allOf places.noneOf places.rowsOk
     oct8 oct16 oct24 oct32 headerOf messageOf tlvOf targetOf allocationOf requestOf amountReply reallocationOf
-    sizeOk usable headerIn headIn firstTlv foldBy foldUpTo foldTlvs insideOf entered insideOk allTlvs listOk
+    sizeOk usable headerIn headIn firstTlv foldBy foldUpTo foldTlvs insideOf heldOk insideOk allTlvs listOk
     items.itemsOf items.ofType items.countOf items.firstOf requestIn lengthOk tlvsIn amountIn
     same zeros sameFlow knownFamily width inWidth isGroup goodGroup goodSource goodFlow channelAt rateAt channelOf
     bits bitsOf prefixMatches entryAt entryMatches matching weightOf longest has decision listDecision idLength idAt portOf
     idOk channelOk knownList withinAddress entryOk tablesOk firstOk startOf startedOf
     isPort delegationOf committedAt activeRow activeAt sumOver freeIn roomIn began mayAsk
     outcomeOf fits admitNumber whiteOf byList joinRow joinOf askedOf askOf
-    receivedOf byHead byResult isAnswer isNotice requested byType tableOf handled resultOk namedRows beside missing singleOf fromFault idIn located
+    receivedOf byHead byResult isAnswer isNotice requested byType tableOf handled resultOk namedRows alsoNeeded missing singleOf fromFault idIn located
     reallocated reducedTo transferFails transferGives
-    idRow groupAt channelsFrom rates tables upWith ownersFrom channelsIn poolOf cardWith many committed3000 committed3500 crowded
-    flow joins asks requests byCall shownBy shown rows Starred
+    idRow groupAt channelsFrom rates tables upWith ownersFrom channelsIn poolWith cardWith many committed3000 committed3500 crowded
+    groupFlow joinCall askCall requestCall byCall shownBy shown caseRows Starred
 table = refl

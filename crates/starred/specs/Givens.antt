@@ -31,7 +31,7 @@ unfoldable pub channelsFrom : ℕ → List ℕ → List ℕ
 channelsFrom k [] = []
 channelsFrom k (rate ∷ more) = 1 ∷ 0 ∷ rate ∷ groupAt k ++ replicate 4 0 ++ channelsFrom (suc k) more
 
--- channels 0 to 16 have rate 100; 17 to 21 have the five behind
+-- channels 0 to 16 have rate 100; 17 to 21 have the five that follow
 unfoldable pub rates : List ℕ
 rates = replicate 17 100 ++ 1000 ∷ 1001 ∷ 1200 ∷ 1800 ∷ 500 ∷ []
 
@@ -68,8 +68,8 @@ channelsIn [] = []
 channelsIn (ks ∷ held) = ks ++ channelsIn held
 
 -- these flows, all of them charged; the other records are free
-unfoldable pub poolOf : List (List ℕ) → Pool
-poolOf held =
+unfoldable pub poolWith : List (List ℕ) → Pool
+poolWith held =
     record {
       owner = ownersFrom 0 held ++ replicate (512 - length (channelsIn held)) free;
       channel = channelsIn held ++ replicate (512 - length (channelsIn held)) 0;
@@ -79,7 +79,7 @@ poolOf held =
 
 -- a card as start gives it with the tables and the next transaction number, then every port up with this delegation, and these flows
 unfoldable pub cardWith : ℕ → List (List ℕ) → ℕ → Card
-cardWith delegation held next = withPool (withPorts (startedOf tables next .card) (replicate 64 (upWith delegation))) (poolOf held)
+cardWith delegation held next = withPool (withPorts (startedOf tables next .card) (replicate 64 (upWith delegation))) (poolWith held)
 
 -- n flows: channels 0 to n - 1
 unfoldable pub many : ℕ → List ℕ
@@ -93,21 +93,21 @@ committed3000 = cardWith 4000 ((19 ∷ 20 ∷ []) ∷ (19 ∷ []) ∷ []) 1
 unfoldable pub committed3500 : ℕ → Card
 committed3500 next = cardWith 6000 ((19 ∷ 20 ∷ 21 ∷ []) ∷ (19 ∷ []) ∷ []) next
 
--- port 0 has n flows, so many of the next ports have 16, with 12 extras each, and the one behind them has m
+-- port 0 has n flows, so many of the next ports have 16, with 12 extras each, and the one after them has m
 unfoldable pub crowded : ℕ → ℕ → ℕ → Card
 crowded n full m = cardWith 4000 (many n ∷ replicate full (many 16) ++ many m ∷ []) 1
 
 -- ---- calls, of port 0, with a reply buffer of 4,608 octets
 
-unfoldable pub flow : ℕ → Flow
-flow k = record { family = 1; sourced = 0; group = groupAt k; source = replicate 4 0 }
+unfoldable pub groupFlow : ℕ → Flow
+groupFlow k = record { family = 1; sourced = 0; group = groupAt k; source = replicate 4 0 }
 
-unfoldable pub joins : ℕ → Call
-joins k = join 0 (flow k) 4608
+unfoldable pub joinCall : ℕ → Call
+joinCall k = join 0 (groupFlow k) 4608
 
-unfoldable pub asks : ℕ → ℕ → Call
-asks required preferred = ask 0 required preferred 4608
+unfoldable pub askCall : ℕ → ℕ → Call
+askCall required preferred = ask 0 required preferred 4608
 
 -- a Bandwidth Reallocation Request (146), Result 0, with port 0's circuit id and transaction 7
-unfoldable pub requests : ℕ → ℕ → Call
-requests required preferred = message (messageOf (beginHeader 146 7) (targetOf (0 ∷ []) ++ requestOf required preferred)) 4608
+unfoldable pub requestCall : ℕ → ℕ → Call
+requestCall required preferred = message (messageOf (beginHeader 146 7) (targetOf (0 ∷ []) ++ requestOf required preferred)) 4608

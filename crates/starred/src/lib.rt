@@ -1,11 +1,11 @@
 // The starred cases of 01: the table is in specs/, its proof in proofs/, and this crate's function owes it.
 ghost use mathlib.Core.Path.{_≡_};
 ghost use lib.ListN.{length};
-ghost use Rattle.starred.specs.Starred.{rows, Starred};
+ghost use Rattle.starred.specs.Starred.{caseRows, Starred};
 
 // How many starred cases there are, each of which shows what 01 says.
 pub fn starred_cases() -> usize
-    ensures { λ r. ⌜ (r ≡ length rows) × Starred ⌝ }
+    ensures { λ r. ⌜ (r ≡ length caseRows) × Starred ⌝ }
 {
     12
 }

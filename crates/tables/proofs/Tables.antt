@@ -15,7 +15,7 @@ use Rattle.flows.specs.Words.{same}
 use Rattle.flows.specs.Flows.{sameFlow, goodFlow}
 use Rattle.flows.specs.declared.Flow.{Flow}
 use Rattle.flows.proofs.Same.{same-refl, same-flow-refl}
-use Rattle.rows.specs.Rows.{firstOf, noneOf, rowsOk, isNothing}
+use Rattle.rows.specs.Rows.{firstRow, noneOf, rowsOk, isNothing}
 use Rattle.rows.specs.declared.Found.the-variants.{At}
 use Rattle.rows.proofs.Rows.{found-is, none-at, nothing-none, alone, rows-at}
 use Rattle.channels.specs.Channels.{channelAt, rateAt, isRow, channelOf}
@@ -24,8 +24,8 @@ use Rattle.lists.specs.Lists.{entryAt}
 use Rattle.tables.specs.Tables.{idOk, channelOk, entryOk, entryOkAt, tablesOk}
 
 -- nothing is found among the rows before
-before-row : (test : ℕ → Bool) (i rows : ℕ) → i ≤ rows → isNothing (firstOf (min i rows) test) ≡ noneOf i test
-before-row test i rows h = let e : min i rows ≡ i = omega arith in ap (λ (n : ℕ). isNothing (firstOf n test)) e ∙ nothing-none i test
+before-row : (test : ℕ → Bool) (i rows : ℕ) → i ≤ rows → isNothing (firstRow (min i rows) test) ≡ noneOf i test
+before-row test i rows h = let e : min i rows ≡ i = omega arith in ap (λ (n : ℕ). isNothing (firstRow n test)) e ∙ nothing-none i test
 
 pub unused-id : (ids id : List ℕ) (p : ℕ) → p ≤ 64 → isNothing (portOf ids p id) ≡ noneOf p (hasId ids id)
 unfolding portOf

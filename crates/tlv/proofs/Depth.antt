@@ -13,7 +13,7 @@ use Rattle.tlv.specs.declared.First.the-variants.{End, Broken, Tlv}
 use Rattle.tlv.specs.declared.Inside.{Inside}
 use Rattle.tlv.specs.declared.Inside.the-variants.{Plain, Short, Holds}
 use Rattle.tlv.specs.First.{firstTlv}
-use Rattle.tlv.specs.Depth.{insideOf, entered, insideOk, allTlvs, listOk}
+use Rattle.tlv.specs.Depth.{insideOf, heldOk, insideOk, allTlvs, listOk}
 use Rattle.tlv.proofs.Firsts.{first-end}
 use Rattle.tlv.proofs.Fold.{fold-end, fold-broken, fold-tlv, fold-related}
 
@@ -49,8 +49,8 @@ all-weaker ok ok′ f s =
     (λ t c a b k g. and-both (ok t c) a (ok′ t c) b (f t c) g) s (le-refl (length s))
 
 module _ (inner inner′ : Bool → List ℕ → Bool) (f : (b : Bool) (s : List ℕ) → inner b s ≡ true → inner′ b s ≡ true) where
-  entered-weaker : (c : List ℕ) (x : Inside) → entered inner c x ≡ true → entered inner′ c x ≡ true
-  unfolding entered
+  entered-weaker : (c : List ℕ) (x : Inside) → heldOk inner c x ≡ true → heldOk inner′ c x ≡ true
+  unfolding heldOk
   entered-weaker c Plain h = h
   entered-weaker c Short h = h
   entered-weaker c (Holds k b) h = f b (drop k c) h
@@ -60,8 +60,8 @@ module _ (inner inner′ : Bool → List ℕ → Bool) (f : (b : Bool) (s : List
   inside-weaker b t c h = entered-weaker c (insideOf b t c) h
 
 -- where bare headers may stand, what passes without them passes
-bare-by : (inner : Bool → List ℕ → Bool) (c : List ℕ) (b : Bool) (x : Inside) → entered inner c x ≡ true → entered inner c (cond b Plain x) ≡ true
-unfolding entered
+bare-by : (inner : Bool → List ℕ → Bool) (c : List ℕ) (b : Bool) (x : Inside) → heldOk inner c x ≡ true → heldOk inner c (cond b Plain x) ≡ true
+unfolding heldOk
 bare-by inner c true x h = refl
 bare-by inner c false x h = h
 

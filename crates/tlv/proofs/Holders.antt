@@ -10,7 +10,7 @@ use borrow.Author.Tests.{leb-true}
 use Rattle.octets.specs.Numbers.{be16, padded}
 use Rattle.tlv.specs.declared.Inside.{Inside}
 use Rattle.tlv.specs.declared.Inside.the-variants.{Plain, Short, Holds}
-use Rattle.tlv.specs.Depth.{statusInside, insideOf, entered, insideOk}
+use Rattle.tlv.specs.Depth.{statusInside, insideOf, heldOk, insideOk}
 
 -- the start, if there is one, is at most the length
 data Starts (c : List ℕ) : Inside → Type 0 where
@@ -46,6 +46,6 @@ module _ (bare : Bool) (t : ℕ) (c : List ℕ) {x : Inside} (e : x ≡ insideOf
   pub holds-fits : {k : ℕ} {b : Bool} → x ≡ Holds k b → k ≤ length c
   holds-fits h = start-in (starts bare t c) (sym e ∙ h)
 
-  pub enters : (inner : Bool → List ℕ → Bool) {y : Inside} → x ≡ y → entered inner c y ≡ insideOk inner bare t c
+  pub enters : (inner : Bool → List ℕ → Bool) {y : Inside} → x ≡ y → heldOk inner c y ≡ insideOk inner bare t c
   unfolding insideOk
-  enters inner h = ap (entered inner c) (sym h ∙ e)
+  enters inner h = ap (heldOk inner c) (sym h ∙ e)

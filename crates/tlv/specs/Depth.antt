@@ -28,13 +28,13 @@ insideOf bare t c =
     Plain)))
 
 -- a TLV's inside, where `inner bare` says whether the list that it holds is in order
-unfoldable pub entered : (Bool → List ℕ → Bool) → List ℕ → Inside → Bool
-entered inner c Plain = true
-entered inner c Short = false
-entered inner c (Holds start bare) = inner bare (drop start c)
+unfoldable pub heldOk : (Bool → List ℕ → Bool) → List ℕ → Inside → Bool
+heldOk inner c Plain = true
+heldOk inner c Short = false
+heldOk inner c (Holds start bare) = inner bare (drop start c)
 
 unfoldable pub insideOk : (Bool → List ℕ → Bool) → Bool → ℕ → List ℕ → Bool
-insideOk inner bare t c = entered inner c (insideOf bare t c)
+insideOk inner bare t c = heldOk inner c (insideOf bare t c)
 
 -- no length of s is broken, and each TLV passes the test `ok` of its type and content
 unfoldable pub allTlvs : (ℕ → List ℕ → Bool) → List ℕ → Bool

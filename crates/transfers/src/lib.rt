@@ -35,7 +35,7 @@ pub fn reallocate<'a>(
     if (r.required as u64) < committed {
         return fail(ids, terms, h, 0, reply);
     }
-    let x = terms.x;
+    let x = terms.port;
     give(
         ids,
         terms,
@@ -62,7 +62,7 @@ fn fail(ids: &[u8; 4096], terms: Terms, h: Header, code: u16, reply: &mut [u8]) 
     requires { ⌜ (4608 ≤ length (now reply)) × (terms .at < 64) ⌝ }
     ensures { λ d. ⌜ ((pool : Pool) → ComesTo (λ card. transferFails (now (ids .entry)) card h (terms .at) code) (terms .at) terms pool pool d (now (reply .entry)) (now (reply .exit))) ⌝ }
 {
-    let x = terms.x;
+    let x = terms.port;
     let n = replies::put_amount(
         reply,
         h,
@@ -96,7 +96,7 @@ fn give(ids: &[u8; 4096], terms: Terms, h: Header, amount: u32, reply: &mut [u8]
 pub fn transfer(terms: Terms, h: Header, amount: u32) -> Effect
     ensures { λ d. ⌜ ((pool : Pool) (text : List ℕ) → ComesTo (λ card. transferred card h (terms .at) amount) (terms .at) terms pool pool d text text) ⌝ }
 {
-    let x = terms.x;
+    let x = terms.port;
     if !x.answers(h.transaction) {
         return card::unchanged(terms, 16);
     }

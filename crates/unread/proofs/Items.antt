@@ -17,7 +17,7 @@ use Rattle.items.specs.Items.{Item, item, itemsOf, ofType, countOf, firstOf}
 use Rattle.fields.specs.Fields.{circuitIds, circuitId, commandIn, lengthOk}
 use Rattle.writers.specs.Tlvs.{bareOf}
 use Rattle.checks.specs.Named.{missing, fromFault}
-use Rattle.commands.specs.Orders.{flowCount, flowContent, shapeOk, orderOf}
+use Rattle.commands.specs.Directives.{flowCount, flowContent, shapeOk, directiveOf}
 use Rattle.unread.specs.Alike.{tlvWith, tlvs, content, Alike, same, more, target, command, status}
 use Rattle.unread.proofs.Tlvs.{items-with, alike-length}
 
@@ -107,11 +107,11 @@ module _ {i i′ : List ℕ} (code accounting x y x′ y′ : ℕ) (a : Alike tl
   unfolding flowContent
   flow-content = first-same 0x0019 (items-alike a) (λ k. omega arith) (λ k. omega arith) (λ k. omega arith)
 
-  command-order : orderOf c ≡ orderOf c′
-  unfolding orderOf shapeOk commandIn
+  command-order : directiveOf c ≡ directiveOf c′
+  unfolding directiveOf shapeOk commandIn
   command-order = rw (flow-count, flow-content)
 
-pub order-same : {t : ℕ} {c c′ : List ℕ} → Alike (content t) c c′ → t ≡ 0x0011 → orderOf c ≡ orderOf c′
+pub order-same : {t : ℕ} {c c′ : List ℕ} → Alike (content t) c c′ → t ≡ 0x0011 → directiveOf c ≡ directiveOf c′
 order-same same e = refl
 order-same (target a) e = absurd (omega arith)
 order-same (command code accounting x y x′ y′ a) e = command-order code accounting x y x′ y′ a

@@ -139,17 +139,17 @@ module _ (ids channels : List ℕ) (card : Card) (h : Header) {s s′ : List ℕ
       (subst (λ (x : Verdict). SameOutcome (requested ids channels card h s v) (requested ids channels card h s′ x)) table-same (requested-alike v))))
 
 -- ---- whole messages
-module _ (ids channels : List ℕ) (card : Card) (room : ℕ) where
+module _ (ids channels : List ℕ) (card : Card) (space : ℕ) where
   -- what a message comes to, where `o` is what its TLVs do
   abbrev byTests : Bool → Bool → Outcome → Outcome
-  byTests size head o = cond (ltb room 4608) (keeps card 13) (cond size (cond head o (keeps card 15)) (keeps card 15))
+  byTests size head o = cond (ltb space 4608) (keeps card 13) (cond size (cond head o (keeps card 15)) (keeps card 15))
 
   abbrev byTlvs : List ℕ → Outcome
   byTlvs m = byResult ids channels card (headerIn m) (drop 16 m)
 
-  received-is : (m : List ℕ) → receivedOf ids channels card m room ≡ byTests (sizeOk m) (usable m) (byTlvs m)
+  received-is : (m : List ℕ) → receivedOf ids channels card m space ≡ byTests (sizeOk m) (usable m) (byTlvs m)
   unfolding receivedOf headIn byHead
-  received-is m = ap (λ (o : Outcome). cond (ltb room 4608) (keeps card 13) (cond (sizeOk m) o (keeps card 15))) (go (usable m))
+  received-is m = ap (λ (o : Outcome). cond (ltb space 4608) (keeps card 13) (cond (sizeOk m) o (keeps card 15))) (go (usable m))
     where
       go : (b : Bool) → byHead ids channels card m (cond b (Usable (headerIn m)) Unusable) ≡ cond b (byTlvs m) (keeps card 15)
       go true = refl
@@ -165,7 +165,7 @@ module _ (ids channels : List ℕ) (card : Card) (room : ℕ) where
     tests-same : (o : Outcome) → byTests (sizeOk m) (usable m) o ≡ byTests (sizeOk m′) (usable m′) o
     tests-same o = ap₂ (λ (x y : Bool). byTests x y o) (same-size a) (same-usable a)
 
-    same-code : drop 16 m ≡ drop 16 m′ → receivedOf ids channels card m room ≡ receivedOf ids channels card m′ room
+    same-code : drop 16 m ≡ drop 16 m′ → receivedOf ids channels card m space ≡ receivedOf ids channels card m′ space
     same-code e =
         received-is m
         ∙ tests-same (byTlvs m)
@@ -173,11 +173,11 @@ module _ (ids channels : List ℕ) (card : Card) (room : ℕ) where
         ∙ sym (received-is m′)
 
     tests-alike : (x y : Bool) (o o′ : Outcome) → SameOutcome o o′ → SameOutcome (byTests x y o) (byTests x y o′)
-    tests-alike x y o o′ f = by-same (ltb room 4608) (as-equal refl) (by-same x (by-same y f (as-equal refl)) (as-equal refl))
+    tests-alike x y o o′ f = by-same (ltb space 4608) (as-equal refl) (by-same x (by-same y f (as-equal refl)) (as-equal refl))
 
-    same-octets : Alike tlvs (drop 16 m) (drop 16 m′) → SameOutcome (receivedOf ids channels card m room) (receivedOf ids channels card m′ room)
+    same-octets : Alike tlvs (drop 16 m) (drop 16 m′) → SameOutcome (receivedOf ids channels card m space) (receivedOf ids channels card m′ space)
     same-octets t =
-        subst (SameOutcome (receivedOf ids channels card m room)) (sym (received-is m′))
+        subst (SameOutcome (receivedOf ids channels card m space)) (sym (received-is m′))
         (subst (λ (o : Outcome). SameOutcome o (byTests (sizeOk m′) (usable m′) (byTlvs m′)))
         (sym (received-is m ∙ tests-same (byTlvs m) ∙ ap (byTests (sizeOk m′) (usable m′)) head-same))
         (tests-alike (sizeOk m′) (usable m′) _ _ (result-alike ids channels card (headerIn m′) t)))
@@ -185,6 +185,6 @@ module _ (ids channels : List ℕ) (card : Card) (room : ℕ) where
 pub unread : Unread
 unread =
     record {
-      code = λ ids channels card m m′ room a e. same-code ids channels card room a e;
-      octets = λ ids channels card m m′ room a t. same-octets ids channels card room a t;
+      code = λ ids channels card m m′ space a e. same-code ids channels card space a e;
+      octets = λ ids channels card m m′ space a t. same-octets ids channels card space a t;
     }

@@ -16,7 +16,7 @@ use Rattle.octets.specs.Numbers.{be16, oct8, oct16, padded}
 use Rattle.tlv.specs.declared.First.the-variants.{Tlv}
 use Rattle.tlv.specs.declared.Inside.the-variants.{Plain, Holds}
 use Rattle.tlv.specs.First.{firstTlv}
-use Rattle.tlv.specs.Depth.{statusInside, insideOf, entered, insideOk, allTlvs, listOk}
+use Rattle.tlv.specs.Depth.{statusInside, insideOf, heldOk, insideOk, allTlvs, listOk}
 use Rattle.tlv.proofs.Firsts.{first-stood}
 use Rattle.tlv.proofs.Depth.{all-tlv}
 use Rattle.items.specs.Items.{item, itemsOf}
@@ -91,20 +91,20 @@ alike-length (status {i} {i′} kind x x′ text u u′ p p′ a) =
 -- ---- the inside of a holder
 module _ (inner : Bool → List ℕ → Bool) (b : Bool) where
   target-by : (c c′ : List ℕ) → length c ≡ length c′ → inner false c ≡ inner false c′ → insideOk inner b 0x1000 c ≡ insideOk inner b 0x1000 c′
-  unfolding insideOk insideOf entered
-  target-by c c′ e h = ap (λ (n : ℕ). entered inner c (cond (b && eqb n 0) Plain (Holds 0 false))) e ∙ go (b && eqb (length c′) 0)
+  unfolding insideOk insideOf heldOk
+  target-by c c′ e h = ap (λ (n : ℕ). heldOk inner c (cond (b && eqb n 0) Plain (Holds 0 false))) e ∙ go (b && eqb (length c′) 0)
     where
-      go : (z : Bool) → entered inner c (cond z Plain (Holds 0 false)) ≡ entered inner c′ (cond z Plain (Holds 0 false))
+      go : (z : Bool) → heldOk inner c (cond z Plain (Holds 0 false)) ≡ heldOk inner c′ (cond z Plain (Holds 0 false))
       go true = refl
       go false = h
 
   command-by : (c i : List ℕ) → eqb (length c) 0 ≡ false → leb 4 (length c) ≡ true → drop 4 c ≡ i → insideOk inner b 0x0011 c ≡ inner false i
-  unfolding insideOk insideOf entered
+  unfolding insideOk insideOf heldOk
   command-by c i z f e = simp (z, f, and-false, e)
 
   status-by : (c i : List ℕ) (n : ℕ) → eqb (length c) 0 ≡ false → be16 c 2 ≡ n → leb (4 + padded n) (length c) ≡ true → drop (4 + padded n) c ≡ i
       → insideOk inner b 0x0106 c ≡ inner true i
-  unfolding insideOk insideOf statusInside entered
+  unfolding insideOk insideOf statusInside heldOk
   status-by c i n z e f g = simp (z, e, f, and-false, g)
 
   command-is : (code accounting x y : ℕ) (i : List ℕ) → insideOk inner b 0x0011 (code ∷ accounting ∷ x ∷ y ∷ i) ≡ inner false i

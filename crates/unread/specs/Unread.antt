@@ -26,7 +26,7 @@ pub record SameOutcome (o o′ : Outcome) : Type 0 where
   pub reply : SameReply (o .reply) (o′ .reply)
 
 pub record Unread : Type 0 where
-  pub code : (ids channels : List ℕ) (card : Card) (m m′ : List ℕ) (room : ℕ) → SameHeader m m′ → drop 16 m ≡ drop 16 m′
-      → receivedOf ids channels card m room ≡ receivedOf ids channels card m′ room
-  pub octets : (ids channels : List ℕ) (card : Card) (m m′ : List ℕ) (room : ℕ) → SameHeader m m′ → Alike tlvs (drop 16 m) (drop 16 m′)
-      → SameOutcome (receivedOf ids channels card m room) (receivedOf ids channels card m′ room)
+  pub code : (ids channels : List ℕ) (card : Card) (m m′ : List ℕ) (space : ℕ) → SameHeader m m′ → drop 16 m ≡ drop 16 m′
+      → receivedOf ids channels card m space ≡ receivedOf ids channels card m′ space
+  pub octets : (ids channels : List ℕ) (card : Card) (m m′ : List ℕ) (space : ℕ) → SameHeader m m′ → Alike tlvs (drop 16 m) (drop 16 m′)
+      → SameOutcome (receivedOf ids channels card m space) (receivedOf ids channels card m′ space)

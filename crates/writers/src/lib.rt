@@ -1,4 +1,4 @@
-// Writers of TLVs. Each writes over the start of the buffer that it is lent, keeps what lies behind, and returns how many octets it wrote,
+// Writers of TLVs. Each writes over the start of the buffer that it is lent, keeps what lies after it, and returns how many octets it wrote,
 // so that the rest of the buffer can be lent to the next writer.
 ghost use mathlib.Core.Path.{_≡_};
 ghost use Prim.Native.Nat.{_+_, _≤_, _<_};
@@ -90,7 +90,7 @@ pub fn put_flow(
     4 + p
 }
 
-// The head of a holder before n octets of TLVs, which stand behind it already.
+// The head of a holder before n octets of TLVs, which stand after it already.
 pub fn put_status(buf: &mut [u8], kind: u8, n: usize)
     requires { ⌜ (8 ≤ length (now buf)) × (n < 65532) ⌝ }
     ensures { λ _. ⌜ now (buf .exit) ≡ over (statusHead kind n) (now (buf .entry)) ⌝ }

@@ -21,10 +21,10 @@ module _ (t : Tables) (taken : TablesTaken t) (card : Card) (l : Ledger) (a : Ag
   call-writes (portUp p) o = up-writes t card p
   call-writes (portDown p) o = down-writes t card p
   call-writes (setDelegation p amount) o = delegation-writes t card p amount
-  call-writes (join p f room) o = join-writes t card p range f room
+  call-writes (join p f space) o = join-writes t card p range f space
   call-writes (leave p f) o = leave-writes t card p f
-  call-writes (ask p required preferred room) o = ask-writes t card p range required preferred room
-  call-writes (message m room) o = message-writes t card m room o (rows-good t taken card l a)
+  call-writes (ask p required preferred space) o = ask-writes t card p range required preferred space
+  call-writes (message m space) o = message-writes t card m space o (rows-good t taken card l a)
 
 pub every-written : EveryWritten
 every-written =

@@ -66,9 +66,9 @@ module _ (t : Tables) (card : Card) where
 
     module _ (range : card .head .counter .number < 16777216) where
       -- ---- join: a flow that is found is a channel's, whose addresses have four words
-      module _ (f : Flow) (room : ℕ) where
+      module _ (f : Flow) (space : ℕ) where
         abbrev ByJoin : Outcome → Type 0
-        ByJoin = By (join p f room)
+        ByJoin = By (join p f space)
 
         abbrev FourWords : Flow → Type 0
         FourWords g = (length (g .group) ≡ 4) × (length (g .source) ≡ 4)
@@ -95,10 +95,10 @@ module _ (t : Tables) (card : Card) where
             (λ _. list-writes good (rw (sym (channel-found (t .channels) (card .head .«channel_count») f e .is)) (channel-words k)) k
             (listDecision (t .entries) (card .head .«entry_count») f))
 
-        pub join-writes : ByJoin (joinOf (t .ids) (t .channels) (t .entries) card p f room)
+        pub join-writes : ByJoin (joinOf (t .ids) (t .channels) (t .entries) card p f space)
         unfolding joinOf
         join-writes =
-            by-cond ByJoin (ltb room 4608) _ _ (λ _. nothing)
+            by-cond ByJoin (ltb space 4608) _ _ (λ _. nothing)
             (λ _. by-cond ByJoin (hasPort card p) _ _
             (λ _. by-cond ByJoin (portAt card p .up) _ _
             (λ _. by-cond ByJoin (goodFlow f) _ _ (λ good. row-writes good (channelOf (t .channels) (card .head .«channel_count») f) refl) (λ _. nothing))
@@ -106,18 +106,18 @@ module _ (t : Tables) (card : Card) where
             (λ _. nothing))
 
       -- ---- ask
-      module _ (required preferred room : ℕ) where
+      module _ (required preferred space : ℕ) where
         abbrev ByAsk : Outcome → Type 0
-        ByAsk = By (ask p required preferred room)
+        ByAsk = By (ask p required preferred space)
 
         asked-writes : ByAsk (askedOf (t .ids) card p required preferred)
         unfolding askedOf
         asked-writes = reallocation (kinds-back .reallocation (card .head .counter .number) (idAt (t .ids) p) required preferred range)
 
-        pub ask-writes : ByAsk (askOf (t .ids) card p required preferred room)
+        pub ask-writes : ByAsk (askOf (t .ids) card p required preferred space)
         unfolding askOf
         ask-writes =
-            by-cond ByAsk (ltb room 4608) _ _ (λ _. nothing)
+            by-cond ByAsk (ltb space 4608) _ _ (λ _. nothing)
             (λ _. by-cond ByAsk (hasPort card p) _ _
             (λ _. by-cond ByAsk (portAt card p .up) _ _
             (λ _. by-cond ByAsk (mayAsk (portAt card p) required preferred) _ _ (λ _. asked-writes) (λ _. nothing))

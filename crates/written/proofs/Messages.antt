@@ -73,7 +73,7 @@ flow-query : (k : ℕ) → handled k ≡ true → eqb k 144 ≡ false → eqb k 
 unfolding handled
 flow-query k h a b c d = eqb-true k 149 (rw (a, b, c, d) at h)
 
-module _ (t : Tables) (card : Card) (m : List ℕ) (room : ℕ) (octets : Octets m)
+module _ (t : Tables) (card : Card) (m : List ℕ) (space : ℕ) (octets : Octets m)
     (good : (p : ℕ) → p < card .head .«port_count» → Good (t .channels) (rowsInOrder (t .channels) (card .pool) p)) where
   abbrev h : Header
   h = headerIn m
@@ -82,7 +82,7 @@ module _ (t : Tables) (card : Card) (m : List ℕ) (room : ℕ) (octets : Octets
   s = drop 16 m
 
   abbrev So : Outcome → Type 0
-  So = By t card (message m room)
+  So = By t card (message m space)
 
   fits : h .transaction < 16777216
   unfolding headerIn
@@ -210,7 +210,7 @@ module _ (t : Tables) (card : Card) (m : List ℕ) (room : ℕ) (octets : Octets
   unfolding headIn byHead
   head-writes = by-cond (λ (x : Head). So (byHead (t .ids) (t .channels) card m x)) (usable m) _ _ (λ _. result-writes) (λ _. nothing)
 
-  pub message-writes : So (receivedOf (t .ids) (t .channels) card m room)
+  pub message-writes : So (receivedOf (t .ids) (t .channels) card m space)
   unfolding receivedOf
   message-writes =
-      by-cond So (ltb room 4608) _ _ (λ _. nothing) (λ _. by-cond So (sizeOk m) _ _ (λ _. head-writes) (λ _. nothing))
+      by-cond So (ltb space 4608) _ _ (λ _. nothing) (λ _. by-cond So (sizeOk m) _ _ (λ _. head-writes) (λ _. nothing))

@@ -9,7 +9,7 @@ use Rattle.written.specs.Written.{Written}
 
 -- a message that is handed in has octets
 abbrev pub InOctets : Call → Type 0
-InOctets = byCall (λ p f room. Unit {0}) (λ p. Unit {0}) (λ m room. Octets m) (λ q. Unit {0})
+InOctets = byCall (λ p f space. Unit {0}) (λ p. Unit {0}) (λ m space. Octets m) (λ q. Unit {0})
 
 pub record EveryWritten : Type 0 where
   pub each : (t : Tables) (first : ℕ) → startedOf t first .number ≡ 0 → (calls : List Call) (x : Call) → InOctets x

@@ -50,44 +50,44 @@ module _ (t : Tables) (card : Card) where
   pub data Written : Call → List ℕ → Type 0 where
     nothing : {x : Call} → Written x []
     -- ---- begun by the host: Admission Control (145), Bandwidth Reallocation Request (146)
-    admission : {p room : ℕ} {f : Flow} {w : List ℕ} → Admits w (card .head .counter .number) (idAt (t .ids) p) f → Written (join p f room) w
-    reallocation : {p required preferred room : ℕ} {w : List ℕ} → Requests w (card .head .counter .number) (idAt (t .ids) p) required preferred
-        → Written (ask p required preferred room) w
+    admission : {p space : ℕ} {f : Flow} {w : List ℕ} → Admits w (card .head .counter .number) (idAt (t .ids) p) f → Written (join p f space) w
+    reallocation : {p required preferred space : ℕ} {w : List ℕ} → Requests w (card .head .counter .number) (idAt (t .ids) p) required preferred
+        → Written (ask p required preferred space) w
     -- ---- a row of the table: Generic Response (91), Failure
-    type-unhandled : {m w : List ℕ} {room : ℕ} → verdictOn m ≡ Refused 0x51 → Refuses w (headerIn m) 0x51 [] → Written (message m room) w
-    result-wrong : {m w : List ℕ} {room : ℕ} → verdictOn m ≡ Refused 0x2 → Refuses w (headerIn m) 0x2 [] → Written (message m room) w
-    tlvs-broken : {m w : List ℕ} {room : ℕ} → verdictOn m ≡ Refused 0x53 → Refuses w (headerIn m) 0x53 [] → Written (message m room) w
-    tlvs-missing : {m w : List ℕ} {room : ℕ} → verdictOn m ≡ Refused 0x54
-        → Refuses w (headerIn m) 0x54 (absent (needed (headerIn m .kind)) (itemsOf (tlvsOf m))) → Written (message m room) w
+    type-unhandled : {m w : List ℕ} {space : ℕ} → verdictOn m ≡ Refused 0x51 → Refuses w (headerIn m) 0x51 [] → Written (message m space) w
+    result-wrong : {m w : List ℕ} {space : ℕ} → verdictOn m ≡ Refused 0x2 → Refuses w (headerIn m) 0x2 [] → Written (message m space) w
+    tlvs-broken : {m w : List ℕ} {space : ℕ} → verdictOn m ≡ Refused 0x53 → Refuses w (headerIn m) 0x53 [] → Written (message m space) w
+    tlvs-missing : {m w : List ℕ} {space : ℕ} → verdictOn m ≡ Refused 0x54
+        → Refuses w (headerIn m) 0x54 (absent (needed (headerIn m .kind)) (itemsOf (tlvsOf m))) → Written (message m space) w
     -- the TLV that is copied is one of the message: the first at fault
-    tlv-at-fault : {m w : List ℕ} {room : ℕ} {i : Item} (before after : List Item) → verdictOn m ≡ Refused 0x55
+    tlv-at-fault : {m w : List ℕ} {space : ℕ} {i : Item} (before after : List Item) → verdictOn m ≡ Refused 0x55
         → itemsOf (tlvsOf m) ≡ before ++ (i ∷ after) → faults (headerIn m .kind) (tlvsOf m) ≡ i ∷ after
-        → Refuses w (headerIn m) 0x55 (i ∷ []) → Written (message m room) w
-    port-unknown : {m w : List ℕ} {room : ℕ} → verdictOn m ≡ Refused 0x500 → RefusesPort w (headerIn m) 0x500 (idIn (tlvsOf m)) → Written (message m room) w
-    port-down : {m w : List ℕ} {room : ℕ} → verdictOn m ≡ Refused 0x6 → RefusesPort w (headerIn m) 0x6 (idIn (tlvsOf m)) → Written (message m room) w
+        → Refuses w (headerIn m) 0x55 (i ∷ []) → Written (message m space) w
+    port-unknown : {m w : List ℕ} {space : ℕ} → verdictOn m ≡ Refused 0x500 → RefusesPort w (headerIn m) 0x500 (idIn (tlvsOf m)) → Written (message m space) w
+    port-down : {m w : List ℕ} {space : ℕ} → verdictOn m ≡ Refused 0x6 → RefusesPort w (headerIn m) 0x6 (idIn (tlvsOf m)) → Written (message m space) w
     -- ---- past the table, on port p
     -- 144: all commands succeed, or those before c, and c fails
-    succeeded : {m w : List ℕ} {room p : ℕ} {last : Card} → verdictOn m ≡ Passed p → headerIn m .kind ≡ 144 → headerIn m .result ≡ 2
+    succeeded : {m w : List ℕ} {space p : ℕ} {last : Card} → verdictOn m ≡ Passed p → headerIn m .kind ≡ 144 → headerIn m .result ≡ 2
         → AllRan (t .channels) p card (commandsIn (tlvsOf m)) last
-        → Says w (replyHeader (headerIn m) 91 3 0) [] → Written (message m room) w
-    failed : {m w c : List ℕ} {room p : ℕ} {last : Card} (before after : List (List ℕ)) → verdictOn m ≡ Passed p → headerIn m .kind ≡ 144
+        → Says w (replyHeader (headerIn m) 91 3 0) [] → Written (message m space) w
+    failed : {m w c : List ℕ} {space p : ℕ} {last : Card} (before after : List (List ℕ)) → verdictOn m ≡ Passed p → headerIn m .kind ≡ 144
         → commandsIn (tlvsOf m) ≡ before ++ (c ∷ after) → AllRan (t .channels) p card before last
         → (ranOf (t .channels) last p c .code ≡ 0 → ⊥)
-        → Fails w (headerIn m) (ranOf (t .channels) last p c .code) (idAt (t .ids) p) (length before + 1) c → Written (message m room) w
+        → Fails w (headerIn m) (ranOf (t .channels) last p c .code) (idAt (t .ids) p) (length before + 1) c → Written (message m space) w
     -- 146: Bandwidth Transfer (147). Failure carries the present delegation, Success the new one
-    more-preferred : {m w : List ℕ} {room p : ℕ} → verdictOn m ≡ Passed p → headerIn m .kind ≡ 146
+    more-preferred : {m w : List ℕ} {space p : ℕ} → verdictOn m ≡ Passed p → headerIn m .kind ≡ 146
         → figuresIn m .required < figuresIn m .preferred
-        → Carries w (replyHeader (headerIn m) 147 4 0x67) (idAt (t .ids) p) (portAt card p .delegation) → Written (message m room) w
-    under-committed : {m w : List ℕ} {room p : ℕ} → verdictOn m ≡ Passed p → headerIn m .kind ≡ 146
+        → Carries w (replyHeader (headerIn m) 147 4 0x67) (idAt (t .ids) p) (portAt card p .delegation) → Written (message m space) w
+    under-committed : {m w : List ℕ} {space p : ℕ} → verdictOn m ≡ Passed p → headerIn m .kind ≡ 146
         → figuresIn m .required < committedOf (t .channels) (card .pool) p
-        → Carries w (replyHeader (headerIn m) 147 4 0) (idAt (t .ids) p) (portAt card p .delegation) → Written (message m room) w
-    reduced : {m w : List ℕ} {room p : ℕ} → verdictOn m ≡ Passed p → headerIn m .kind ≡ 146
+        → Carries w (replyHeader (headerIn m) 147 4 0) (idAt (t .ids) p) (portAt card p .delegation) → Written (message m space) w
+    reduced : {m w : List ℕ} {space p : ℕ} → verdictOn m ≡ Passed p → headerIn m .kind ≡ 146
         → figuresIn m .preferred ≤ figuresIn m .required → committedOf (t .channels) (card .pool) p ≤ figuresIn m .required
         → Carries w (replyHeader (headerIn m) 147 3 0) (idAt (t .ids) p) (reducedTo (t .channels) card p (figuresIn m .preferred))
-        → Written (message m room) w
+        → Written (message m space) w
     -- 148: the delegation. 149: the flows in order
-    delegation : {m w : List ℕ} {room p : ℕ} → verdictOn m ≡ Passed p → headerIn m .kind ≡ 148
-        → Carries w (replyHeader (headerIn m) 148 3 0) (idAt (t .ids) p) (portAt card p .delegation) → Written (message m room) w
-    flows : {m w : List ℕ} {room p : ℕ} → verdictOn m ≡ Passed p → headerIn m .kind ≡ 149
+    delegation : {m w : List ℕ} {space p : ℕ} → verdictOn m ≡ Passed p → headerIn m .kind ≡ 148
+        → Carries w (replyHeader (headerIn m) 148 3 0) (idAt (t .ids) p) (portAt card p .delegation) → Written (message m space) w
+    flows : {m w : List ℕ} {space p : ℕ} → verdictOn m ≡ Passed p → headerIn m .kind ≡ 149
         → Lists w (replyHeader (headerIn m) 149 3 0) (idAt (t .ids) p) (t .channels) (rowsInOrder (t .channels) (card .pool) p)
-        → Written (message m room) w
+        → Written (message m space) w

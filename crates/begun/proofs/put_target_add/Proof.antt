@@ -2,7 +2,7 @@ use mathlib.Core.Path.{_≡_, sym, _∙_}
 use native.Mathlib.Omega.{arith}
 use lib.ListN.{length-drop, length-append}
 use Rattle.octets.proofs.Parts.{rest-part}
-use Rattle.octets.proofs.Writing.{lent-behind}
+use Rattle.octets.proofs.Writing.{lent-after}
 use Rattle.writers.proofs.Tlvs.{length-target}
 use Rattle.begun.proofs.Sizes.{sized, length-add}
 use borrow.Author.Needs.{needs}
@@ -24,7 +24,7 @@ add-result c = omega (arith, length-target (c .before .before .before .before .b
 returns : tie.Need-returns
 returns c = record {
   size = simp length-append (omega (arith, c .before .before .before .before .before .before .put-target .ensures .size, c .before .before .put-add .ensures .size));
-  text = lent-behind _ _ _ _ (c .before .before .before .before .before .before .put-target .ensures .text) (sym (c .before .before .before .before .before .before .put-target .ensures .size)) (c .before .before .put-add .ensures .text);
+  text = lent-after _ _ _ _ (c .before .before .before .before .before .before .put-target .ensures .text) (sym (c .before .before .before .before .before .before .put-target .ensures .size)) (c .before .before .put-add .ensures .text);
 }
 
 pub put-target-add-spec : {M : Type 1} → statement M

@@ -22,7 +22,7 @@ inside c = c .before .is-port .ensures .1 (not-false _ (c .if1 .left))
 here : (c : tie.Else1) → isPort (c .before .before .args .terms .head .«port_count») (c .before .before .args .p) ≡ true
 here c = sym (c .before .is-port .ensures .0) ∙ not-false _ (c .if1 .left)
 
-up : (c : tie.Else2) → c .before .before .before .before .before .args .terms .x .up ≡ true
+up : (c : tie.Else2) → c .before .before .before .before .before .args .terms .port .up ≡ true
 up c = not-false _ (c .if2 .left)
 
 good : (c : tie.Else3) → goodFlow (c .before .before .before .before .before .before .before .args .f) ≡ true

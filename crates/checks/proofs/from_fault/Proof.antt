@@ -27,7 +27,7 @@ abbrev μ-loop : tie.MeasureT-loop
 abbrev left : tie.At-loop Inv-loop μ-loop → List ℕ
 left c = drop (c .loop .at) (c .before .before .args .tlvs .now)
 
--- past the match: the TLV lies in the message, and the next place behind it
+-- past the match: the TLV lies in the message, and the next place after it
 fit : (c : tie.After-known-told Inv-loop μ-loop) → (c .before .before .before .before .loop .at + 4 + padded (c .before .next .given .0 .1 .0) ≡ c .before .before .before .step-at .result .next) × (c .before .before .before .step-at .result .next ≤ length (c .before .before .before .before .before .before .args .tlvs .now))
 fit c = step-fits _ _ (c .before .before .before .step-at .ensures) (c .before .next .given .1)
 
@@ -35,13 +35,13 @@ fit c = step-fits _ _ (c .before .before .before .step-at .ensures) (c .before .
 abbrev tlv : (c : tie.After-known-told Inv-loop μ-loop) → Item
 tlv c = item (c .before .next .given .0 .0) (take (c .before .next .given .0 .1 .0) (drop (c .before .before .before .before .loop .at + 4) (c .before .before .before .before .before .before .args .tlvs .now)))
 
-abbrev behind : (c : tie.After-known-told Inv-loop μ-loop) → List Item
-behind c = itemsOf (drop (c .before .before .before .step-at .result .next) (c .before .before .before .before .before .before .args .tlvs .now))
+abbrev after : (c : tie.After-known-told Inv-loop μ-loop) → List Item
+after c = itemsOf (drop (c .before .before .before .step-at .result .next) (c .before .before .before .before .before .before .args .tlvs .now))
 
-first : (c : tie.After-known-told Inv-loop μ-loop) → itemsOf (left (c .before .before .before .before)) ≡ tlv c ∷ behind c
+first : (c : tie.After-known-told Inv-loop μ-loop) → itemsOf (left (c .before .before .before .before)) ≡ tlv c ∷ after c
 first c = step-tlv _ _ (c .before .before .before .step-at .ensures) (c .before .next .given .1)
 
-came : (c : tie.After-known-told Inv-loop μ-loop) → fromFault (c .before .before .before .before .before .before .args .single) false false (itemsOf (c .before .before .before .before .before .before .args .tlvs .now)) ≡ fromFault (c .before .before .before .before .before .before .args .single) (c .before .before .before .before .loop .target) (c .before .before .before .before .loop .other) (tlv c ∷ behind c)
+came : (c : tie.After-known-told Inv-loop μ-loop) → fromFault (c .before .before .before .before .before .before .args .single) false false (itemsOf (c .before .before .before .before .before .before .args .tlvs .now)) ≡ fromFault (c .before .before .before .before .before .before .args .single) (c .before .before .before .before .loop .target) (c .before .before .before .before .loop .other) (tlv c ∷ after c)
 came c = c .before .before .before .before .loop .inv .1 ∙ ap (fromFault (c .before .before .before .before .before .before .args .single) (c .before .before .before .before .loop .target) (c .before .before .before .before .loop .other)) (first c)
 
 loop-holds : tie.Need-loop-holds Inv-loop μ-loop

@@ -3,7 +3,7 @@ use mathlib.Core.Path.{_≡_, refl, sym, ap, _∙_}
 use mathlib.Core.List.{List}
 use native.Mathlib.Omega.{arith}
 use Rattle.flows.specs.Words.{same}
-use Rattle.rows.specs.Rows.{firstFrom, firstOf}
+use Rattle.rows.specs.Rows.{firstFrom, firstRow}
 use Rattle.rows.proofs.Rows.{first-start, first-here, first-on, first-end}
 use Rattle.circuits.specs.Circuits.{hasId}
 use borrow.Author.Needs.{needs}
@@ -11,7 +11,7 @@ use Rattle.circuits.proofs.port_among.Statement.{statement}
 use Rattle.circuits.proofs.port_among.Tie as tie
 
 abbrev Inv-loop : tie.InvT-loop
-Inv-loop ids rows id p₀ p = (p ≤ rows) × (firstOf rows (hasId ids id) ≡ firstFrom p (rows - p) (hasId ids id))
+Inv-loop ids rows id p₀ p = (p ≤ rows) × (firstRow rows (hasId ids id) ≡ firstFrom p (rows - p) (hasId ids id))
 
 abbrev μ-loop : tie.MeasureT-loop
 μ-loop ids rows id p₀ p = rows - p

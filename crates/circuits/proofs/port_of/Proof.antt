@@ -6,7 +6,7 @@ use lib.ListN.{length}
 use lib.Dec.{ltb}
 use borrow.Author.Tests.{lt-ltb, le-ltb, ltb-false}
 use Rattle.flows.specs.Words.{same}
-use Rattle.rows.specs.Rows.{firstFrom, firstOf}
+use Rattle.rows.specs.Rows.{firstFrom, firstRow}
 use Rattle.rows.proofs.Rows.{first-start, first-here, first-on, first-end}
 use Rattle.circuits.specs.Circuits.{hasId, portOf}
 use Rattle.circuits.proofs.Circuits.{id-skip}
@@ -24,7 +24,7 @@ returns : tie.Need-returns Inv-loop μ-loop
 unfolding portOf
 returns c =
     let a = c .before .before .before .before .args in
-    c .port-among .ensures ∙ ap (λ (k : ℕ). firstOf k (hasId (a .ids .now) (a .id .now))) (c .before .before .at-most .ensures)
+    c .port-among .ensures ∙ ap (λ (k : ℕ). firstRow k (hasId (a .ids .now) (a .id .now))) (c .before .before .at-most .ensures)
 
 loop-holds : tie.Need-loop-holds Inv-loop μ-loop
 unfolding portOf

@@ -2,7 +2,7 @@ use mathlib.Core.Path.{ap, _∙_}
 use mathlib.Core.List.{List}
 use Prim.Native.Nat.{ℕ}
 use Rattle.items.specs.Items.{itemsOf, firstOf}
-use Rattle.commands.specs.Orders.{flowContent}
+use Rattle.commands.specs.Directives.{flowContent}
 use borrow.Author.Needs.{needs}
 use Rattle.commands.proofs.flow_content.Statement.{statement}
 use Rattle.commands.proofs.flow_content.Tie as tie

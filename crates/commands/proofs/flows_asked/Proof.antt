@@ -1,5 +1,5 @@
 use borrow.Author.Tests.{eq-eqb, ne-eqb}
-use Rattle.commands.specs.Orders.{flowsAsked}
+use Rattle.commands.specs.Directives.{flowsAsked}
 use Rattle.commands.proofs.flows_asked.Statement.{statement}
 use Rattle.commands.proofs.flows_asked.Tie as tie
 

@@ -3,8 +3,8 @@ use native.Mathlib.Omega.{arith}
 use mathlib.Core.List.{List}
 use Prim.Native.Nat.{ℕ}
 use Rattle.items.specs.Items.{itemsOf, countOf}
-use Rattle.commands.specs.Orders.{flowCount}
-use Rattle.commands.proofs.Orders.{shape-wrong, shape-flows}
+use Rattle.commands.specs.Directives.{flowCount}
+use Rattle.commands.proofs.Directives.{shape-wrong, shape-flows}
 use borrow.Author.Needs.{needs}
 use Rattle.commands.proofs.shape_ok.Statement.{statement}
 use Rattle.commands.proofs.shape_ok.Tie as tie

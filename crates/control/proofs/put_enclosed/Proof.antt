@@ -4,7 +4,7 @@ use Prim.Native.Nat.{_≤_}
 use native.Mathlib.Omega.{arith}
 use lib.ListN.{length-drop, length-append}
 use Rattle.octets.proofs.Parts.{rest-part}
-use Rattle.octets.proofs.Writing.{lent-behind}
+use Rattle.octets.proofs.Writing.{lent-after}
 use Rattle.writers.specs.Tlvs.{tlvOf, targetOf, sequenceOf}
 use Rattle.writers.proofs.Tlvs.{length-tlv, length-target, length-sequence}
 use borrow.Author.Needs.{needs}
@@ -49,8 +49,8 @@ returns c = let a = c .before .before .before .before .before .before .before .b
     record {
       size = simp length-append (omega (arith, t .size, q .size, c .before .before .put-tlv .ensures .size));
       text =
-          lent-behind (targetOf (a .id .now) ++ sequenceOf (a .seq)) (tlvOf 0x0011 (a .c .now)) (a .buf .now) _
-          (lent-behind (targetOf (a .id .now)) (sequenceOf (a .seq)) (a .buf .now) _ (t .text) (sym (t .size)) (q .text))
+          lent-after (targetOf (a .id .now) ++ sequenceOf (a .seq)) (tlvOf 0x0011 (a .c .now)) (a .buf .now) _
+          (lent-after (targetOf (a .id .now)) (sequenceOf (a .seq)) (a .buf .now) _ (t .text) (sym (t .size)) (q .text))
           (simp length-append (omega (arith, t .size, q .size))) (c .before .before .put-tlv .ensures .text);
     }
 

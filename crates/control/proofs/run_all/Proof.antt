@@ -37,7 +37,7 @@ maps c = poolOf (c .loop .owner) (c .loop .channel) (c .loop .charged) (c .loop 
 abbrev run : (c : tie.At-loop Inv-loop μ-loop) → Card → List (List ℕ) → Outcome
 run c card cs = let a = c .before .before .before .before .args in commandsFrom (a .channels .now) (a .h) (a .id .now) (a .terms .at) (withPool card (maps c)) (c .loop .seq) cs
 
--- past the match: the TLV lies in the message, and the next place behind it
+-- past the match: the TLV lies in the message, and the next place after it
 fit : (c : tie.After-known-told Inv-loop μ-loop) → (c .before .before .before .before .loop .at + 4 + padded (c .before .next .given .0 .1 .0) ≡ c .before .before .before .step-at .result .next) × (c .before .before .before .step-at .result .next ≤ length (c .before .before .before .before .before .before .before .before .args .tlvs .now))
 fit c = step-fits _ _ (c .before .before .before .step-at .ensures) (c .before .next .given .1)
 
@@ -88,13 +88,13 @@ part-c-end c = omega (arith, fit (c .before))
 run-command-requires : tie.Need-run-command-requires Inv-loop μ-loop
 run-command-requires c κs = (c .before .before .before .before .before .before .before .before .before .before .before .before .before .before .pre .3, c .before .before .before .before .before .before .before .before .before .before .loop .inv .3)
 
--- the maps behind the command
-abbrev behind : (c : tie.After-run-command Inv-loop μ-loop) → Pool
-behind c = let l = c .run-command .last .1 .1 .1 in poolOf (l .0) (l .1 .0) (l .1 .1 .0) (l .1 .1 .1 .0)
+-- the maps after the command
+abbrev after : (c : tie.After-run-command Inv-loop μ-loop) → Pool
+after c = let l = c .run-command .last .1 .1 .1 in poolOf (l .0) (l .1 .0) (l .1 .1 .0) (l .1 .1 .1 .0)
 
 -- what the command comes to
 ran : (c : tie.After-run-command Inv-loop μ-loop) (card : Card) → HasTerms card (c .before .before .before .before .before .before .before .before .before .before .before .before .before .before .before .args .terms .at) (c .before .before .before .before .before .before .before .before .before .before .before .before .before .before .before .args .terms)
-    → ranWith card (behind c) (c .run-command .result) ≡ ranOf (c .before .before .before .before .before .before .before .before .before .before .before .before .before .before .before .args .channels .now) (withPool card (maps (c .before .before .before .before .before .before .before .before .before .before .before))) (c .before .before .before .before .before .before .before .before .before .before .before .before .before .before .before .args .terms .at) (take (c .before .before .before .before .before .before .before .before .next .given .0 .1 .0) (drop (c .before .before .before .before .before .before .before .before .before .before .before .loop .at + 4) (c .before .before .before .before .before .before .before .before .before .before .before .before .before .before .before .args .tlvs .now)))
+    → ranWith card (after c) (c .run-command .result) ≡ ranOf (c .before .before .before .before .before .before .before .before .before .before .before .before .before .before .before .args .channels .now) (withPool card (maps (c .before .before .before .before .before .before .before .before .before .before .before))) (c .before .before .before .before .before .before .before .before .before .before .before .before .before .before .before .args .terms .at) (take (c .before .before .before .before .before .before .before .before .next .given .0 .1 .0) (drop (c .before .before .before .before .before .before .before .before .before .before .before .loop .at + 4) (c .before .before .before .before .before .before .before .before .before .before .before .before .before .before .before .args .tlvs .now)))
 ran c card t = rw add-sub-cancel-left at (sym (c .run-command .ensures .each card t))
 
 put-failure-requires : tie.Need-put-failure-requires Inv-loop μ-loop
@@ -109,7 +109,7 @@ returns-3 c = record {
       λ card t.
       let pool : Pool = maps (c .before .before .before .before .before .before .before .before .before .before .before .before .before .before .before .before) in
       let r = c .before .before .before .before .before in
-      let same : behind r ≡ pool = runs-kept _ card _ _ pool (behind r) (sym (ran r card t)) (c .before .before .before .before .if2 .taken) in
+      let same : after r ≡ pool = runs-kept _ card _ _ pool (after r) (sym (ran r card t)) (c .before .before .before .before .if2 .taken) in
       ends-from (c .before .before .before .before .before .before .before .before .before .before .before .before .before .before .before .before .loop .inv .2)
       (ends-written (withPool card pool) (rw add-sub-cancel-left at (c .before .before .put-failure .ensures))
       (ap (λ (x : Pool). wrote (withPool card x) (c .before .before .put-failure .result)) same)

@@ -5,7 +5,7 @@ use native.Mathlib.Omega.{arith}
 use lib.ListN.{length, take, getD}
 use Rattle.octets.specs.Numbers.{oct32}
 use Rattle.octets.specs.Writing.{over}
-use Rattle.octets.proofs.Writing.{over-none, lent-behind}
+use Rattle.octets.proofs.Writing.{over-none, lent-after}
 use Rattle.flows.specs.Words.{octetsOf}
 use Rattle.flow_octets.proofs.FlowOctets.{octets-turn, length-first}
 use borrow.Author.Needs.{needs}
@@ -31,7 +31,7 @@ loop-again c =
     let e : length (a .t2) ≡ 4 = omega (arith, c .before .before .before .before .before .before .before .good .1 .0) in (
       omega arith,
       search needs,
-      lent-behind (octetsOf (take i (a .t2))) (oct32 (getD (a .t2) i 0)) (a .buf .now) (4 * i) (c .before .before .before .before .before .loop .inv .2) (length-first i (a .t2) (omega arith)) (c .before .before .put32 .ensures)
+      lent-after (octetsOf (take i (a .t2))) (oct32 (getD (a .t2) i 0)) (a .buf .now) (4 * i) (c .before .before .before .before .before .loop .inv .2) (length-first i (a .t2) (omega arith)) (c .before .before .put32 .ensures)
           ∙ ap (λ (w : List ℕ). over w (a .buf .now)) (octets-turn i (a .t2) (omega arith)),
     )
 

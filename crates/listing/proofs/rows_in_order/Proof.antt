@@ -3,7 +3,7 @@ use mathlib.Core.Path.{_≡_, _∙_}
 use mathlib.Core.List.{List}
 use Prim.Native.Nat.{ℕ, _≤_, _-_}
 use lib.ListN.{take}
-use Rattle.pool.specs.Pool.{rowsIn, listed}
+use Rattle.pool.specs.Pool.{rowsIn, asRows}
 use Rattle.listing.specs.Listing.{rowBefore, inOrder, rowsInOrder}
 use Rattle.listing.proofs.Listings.{ordered-start, ordered-room, ordered-turn, ordered-end, found-few}
 use Rattle.listing.proofs.Ordering.{listed-by}
@@ -12,7 +12,7 @@ use Rattle.listing.proofs.rows_in_order.Statement.{statement}
 use Rattle.listing.proofs.rows_in_order.Tie as tie
 
 abbrev Inv-loop : tie.InvT-loop
-Inv-loop channels owner channel p n rows done₀ i₀ done i = (i ≤ n) × (done ≡ listed (inOrder (rowBefore channels) (take i rows)))
+Inv-loop channels owner channel p n rows done₀ i₀ done i = (i ≤ n) × (done ≡ asRows (inOrder (rowBefore channels) (take i rows)))
 
 abbrev μ-loop : tie.MeasureT-loop
 μ-loop channels owner channel p n rows done₀ i₀ done i = n - i

@@ -8,13 +8,13 @@ returns : tie.Need-returns
 returns c = room-none (c .before .before .args .owner .now) (c .before .before .args .p) (c .before .free-of .ensures) (c .if1 .taken)
 
 returns-2 : tie.Need-returns-2
-returns-2 c = let a = c .before .before .before .before .args in room-four (a .owner .now) (a .p) (c .before .before .before .free-of .ensures) (omega arith) (c .before .count-of .ensures) (omega arith)
+returns-2 c = let a = c .before .before .before .before .args in room-four (a .owner .now) (a .p) (c .before .before .before .free-of .ensures) (omega arith) (c .before .active-count .ensures) (omega arith)
 
 returns-3 : tie.Need-returns-3
-returns-3 c = let a = c .before .before .before .before .before .args in room-full (a .owner .now) (a .p) (c .before .before .before .before .free-of .ensures) (omega arith) (c .before .before .count-of .ensures) (omega arith)
+returns-3 c = let a = c .before .before .before .before .before .args in room-full (a .owner .now) (a .p) (c .before .before .before .before .free-of .ensures) (omega arith) (c .before .before .active-count .ensures) (omega arith)
 
 returns-4 : tie.Need-returns-4
-returns-4 c = let a = c .before .before .before .before .before .before .args in room-more (a .owner .now) (a .p) (c .before .before .before .before .before .free-of .ensures) (omega arith) (c .before .before .before .count-of .ensures) (omega arith) (omega arith) (c .extras-of .ensures)
+returns-4 c = let a = c .before .before .before .before .before .before .args in room-more (a .owner .now) (a .p) (c .before .before .before .before .before .free-of .ensures) (omega arith) (c .before .before .before .active-count .ensures) (omega arith) (omega arith) (c .extras-of .ensures)
 
 pub has-room-spec : {M : Type 1} → statement M
 has-room-spec =

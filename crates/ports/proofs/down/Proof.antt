@@ -52,7 +52,7 @@ module _ {M : Type 1} (𝓤 : URA M) (H : Heap 𝓤) (A : Atoms 𝓤) (W : Given
     abbrev Beside : List (Item 𝓤)
     Beside = ‵ (fdies tyLent l₁) ∷ ‵ (froom tyUnit l₀ 0) ∷ ‵ (fdies tyUnit l₀) ∷ ‵ (fat fullShare tyBool l₂ 0 (vbool (h .up))) ∷ ‵ (fdies tyBool l₂) ∷ []
 
-    -- behind the branch
+    -- after the branch
     leave : (z : Port) → Good z → z ≡ takenDown h → Sq W (Held W κ q b o γ h C Λ l₀ l₁ ((tyBool, l₂) ∷ []) z Beside) (prop (Wp 𝓤 H C Λ E code-mir.t-3 (atReturn 𝓤 H E (After (numbers 0) (alone takenDown) 𝓤 H A W κ q b o γ h tt))))
     leave z good e = exec ! C Λ E code-mir.t-3 (atRet E (After (numbers 0) (alone takenDown) 𝓤 H A W κ q b o γ h tt)) $
         leaves W κ q b o γ h C Λ l₀ l₁ ((tyBool, l₂) ∷ []) z good (forget ! 2 refl $ move ! (2 ∷ 3 ∷ []) $ free1 ! $ free0 ! $ by ! (ends (numbers 0) (alone takenDown) 𝓤 H A W κ q b o γ h tt z e))

@@ -102,7 +102,7 @@ module _ {M : Type 1} (𝓤 : URA M) (H : Heap 𝓤) (A : Atoms 𝓤) (W : Given
     abbrev Then : Change → Kit.Post 𝓤 H
     Then c = anyQ (afterSeq 𝓤 H (Wp 𝓤 H C Λ E code-mir.t-2 (atReturn 𝓤 H E (Post c))) (atReturn 𝓤 H E (Post c)))
 
-    -- behind the match
+    -- after the match
     leave : (c : Change) (z : Port) → z ≡ changedBy c h → Sq W (Gone W κ q b o γ h z (Locals c)) (runs C Λ E code-mir.t-2 (atRet E (Post c)))
     leave c z e =
         assigns ! (of-opd ! (unit-lit !)) (from ! (stop !)) (init ! 2 refl (tt, tt)) $ returns ! (look ! 2 refl) $ forget ! 2 refl $ forget ! 4 refl $ forget ! 6 refl $

@@ -42,7 +42,7 @@ use Rattle.items.proofs.place_after.Symbol as callee-def
 use Rattle.items.proofs.place_after.Symbol.{name as #items·place-after}
 use Rattle.items.proofs.place_after.Met as callee-thm
 use Rattle.reader.specs.declared.Reader.{Reader}
-use Rattle.reader.specs.Reader.{placed}
+use Rattle.reader.specs.Reader.{readerAt}
 use Rattle.reader.proofs.Held.{Row, vals, Own, twice, moved, lent}
 use Rattle.reader.proofs.Reader as T
 use Rattle.reader.proofs.Reader.Laws as T′
@@ -75,10 +75,10 @@ module _ {M : Type 1} (𝓤 : URA M) (H : Heap 𝓤) (A : Atoms 𝓤) (W : Given
   said : (n : ℕ) → ent 𝓤 (ensured 𝓤 H A callee.ended (callee.clauses 𝓤 H A mem run) (κ, tt) (d .message, (d .at, tt)) tt n) (fact 𝓤 (n ≡ placeAfter (now (d .message)) (d .at)))
   said n = exE 𝓤 _ (λ ws. snd∗ 𝓤 (sem 𝓤 H A (lasts callee.ended (κ, tt) (d .message, (d .at, tt)) ws)) (fact 𝓤 (n ≡ placeAfter (now (d .message)) (d .at))))
 
-  exits : (n : ℕ) → n < 2 ^ 64 → n ≡ placeAfter (now (d .message)) (d .at) → ent 𝓤 (⋆ 𝓤 H A ((‵ (flft κ q) ⊛ ‵ ftrue) ∷ ‵ Keep ∷ [])) (Post (T′.lowered (placed (d .message) n)))
+  exits : (n : ℕ) → n < 2 ^ 64 → n ≡ placeAfter (now (d .message)) (d .at) → ent 𝓤 (⋆ 𝓤 H A ((‵ (flft κ q) ⊛ ‵ ftrue) ∷ ‵ Keep ∷ [])) (Post (T′.lowered (readerAt (d .message) n)))
   exits n fits e =
       qed W ((‵ (flft κ q) ⊛ ‵ ftrue) ∷ ‵ Keep ∷ []) ∵
-      suffices ! _ (ends-at 𝓤 H A advance.ended stayed (advance.clauses 𝓤 H A mem run) W (((κ, tt), (q, tt), tt, (d, tt), (mach ∷ [], tt)), tt) (T′.lowered (placed (d .message) n)) (placed (d .message) n) (tt, tt) (tt, tt)) $ says ! (ap (placed (d .message)) e) $
+      suffices ! _ (ends-at 𝓤 H A advance.ended stayed (advance.clauses 𝓤 H A mem run) W (((κ, tt), (q, tt), tt, (d, tt), (mach ∷ [], tt)), tt) (T′.lowered (readerAt (d .message) n)) (readerAt (d .message) n) (tt, tt) (tt, tt)) $ says ! (ap (readerAt (d .message)) e) $
       frame ! $ use1 W (‵ Keep ⊛ ‵ Keep) (twice 𝓤 H A W κ d) $ split ! $ nothing ! $ move ! (1 ∷ 0 ∷ []) $ fjoin ! $ frame ! $ by ! (moved 𝓤 H A W κ d n fits)
 
   module _ (C : Calls 𝓤 H) (Λ : Loops 𝓤 H) (fm : FmC 𝓤 H (W .laws) C) (known : Triple 𝓤 (C #items·place-after) (PlaceAfter 𝓤 H A mem run)) where

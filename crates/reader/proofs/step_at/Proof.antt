@@ -45,7 +45,7 @@ use Rattle.tlv.proofs.First.Laws as F′
 use Rattle.items.specs.Place.{tlvAt}
 use Rattle.reader.specs.declared.Reader.{Reader}
 use Rattle.reader.specs.declared.Step.{Step}
-use Rattle.reader.specs.Reader.{placed, advanced, stepAt}
+use Rattle.reader.specs.Reader.{readerAt, advanced, stepAt}
 use Rattle.reader.proofs.Held.{Row, Plain, slice, vals}
 use Rattle.reader.proofs.Reader as T
 use Rattle.reader.proofs.Reader.Laws as T′
@@ -106,8 +106,8 @@ module _ {M : Type 1} (𝓤 : URA M) (H : Heap 𝓤) (A : Atoms 𝓤) (W : Given
       move ! (1 ∷ []) $ fsplit ! $ use1 W (‵ Own ⊛ ‵ Own) (shr-slice-copy 𝓤 H A W (named 0) κ u8 .twice s (slice s ∷ [])) $ split ! $
       move ! (0 ∷ 2 ∷ []) $ fjoin ! $ move ! (2 ∷ 0 ∷ []) $ use2 W (raw (New 𝓤 H A mem run .pre to-new)) (qed W ((‵ (flft κ q) ⊛ ‵ ftrue) ∷ ‵ (owns (Plain κ) (s, (n, tt)) (vals s n)) ∷ []) ∵ join ! $ frame ! $ done !) $ frame ! $ done !
 
-  new-said : (r : Reader) → ent 𝓤 (ensured 𝓤 H A new.ended (new.clauses 𝓤 H A mem run) (κ, tt) (s, (n, tt)) tt r) (fact 𝓤 (r ≡ placed s n))
-  new-said r = exE 𝓤 _ (λ ws. snd∗ 𝓤 (sem 𝓤 H A (lasts new.ended (κ, tt) (s, (n, tt)) ws)) (fact 𝓤 (r ≡ placed s n)))
+  new-said : (r : Reader) → ent 𝓤 (ensured 𝓤 H A new.ended (new.clauses 𝓤 H A mem run) (κ, tt) (s, (n, tt)) tt r) (fact 𝓤 (r ≡ readerAt s n))
+  new-said r = exE 𝓤 _ (λ ws. snd∗ 𝓤 (sem 𝓤 H A (lasts new.ended (κ, tt) (s, (n, tt)) ws)) (fact 𝓤 (r ≡ readerAt s n)))
 
   -- `advance` is passed the same, and asks the same
   abbrev to-next : Reader → Val → Next 𝓤 H A mem run .Ghost
@@ -132,7 +132,7 @@ module _ {M : Type 1} (𝓤 : URA M) (H : Heap 𝓤) (A : Atoms 𝓤) (W : Given
   made-is : (t : First) (u : Val) (r′ : Reader) → Is F.the-row t (u ∷ []) → r′ .at < 2 ^ 64 → Is S.the-row (made t r′) (mach u r′ ∷ [])
   made-is t u r′ is fits = ((u ∷ [], (vint w64 (r′ .at) ∷ [], tt)), (refl, (is, ((refl, fits), tt))))
 
-  answers : {r r′ : Reader} {t : First} → r ≡ placed s n → t ≡ tlvAt (now (r .message)) (r .at) → r′ ≡ advanced r → made t r′ ≡ stepAt (now s) n
+  answers : {r r′ : Reader} {t : First} → r ≡ readerAt s n → t ≡ tlvAt (now (r .message)) (r .at) → r′ ≡ advanced r → made t r′ ≡ stepAt (now s) n
   answers {r} {r′} {t} e e₁ e₂ =
       ap (λ (x : First). made x r′) (e₁ ∙ ap (λ (x : Reader). tlvAt (now (x .message)) (x .at)) e)
       ∙ ap (λ (x : Reader). record { first = tlvAt (now s) n; next = x .at }) (e₂ ∙ ap advanced e)
@@ -154,7 +154,7 @@ module _ {M : Type 1} (𝓤 : URA M) (H : Heap 𝓤) (A : Atoms 𝓤) (W : Given
         move ! (18 ∷ []) $ use1 W (raw (New 𝓤 H A mem run .pre to-new) ⊛ ‵ Own) goes-new $ split ! $
         calls-at ! fm (New 𝓤 H A mem run) known-new to-new (and-then ! (load ! (from ! (stop !)) (look ! 16 refl)) (and-then ! (load ! (from ! (stop !)) (look ! 14 refl)) (no-more !))) (λ u.
         use1 W (later (some (λ (r : Reader). ((‵ (flft κ q) ⊛ ‵ ftrue) ⊛ ‵ (Held r u)) ⊛ raw (ensured 𝓤 H A new.ended (new.clauses 𝓤 H A mem run) (κ, tt) (s, (n, tt)) tt r)))) (id⊢ 𝓤 _) $ await ! tt $ pick ! (λ r.
-        split ! $ move ! (1 ∷ []) $ use1 W (raw (fact 𝓤 (r ≡ placed s n))) (new-said r) $ heard ! (r ≡ placed s n) (λ e. split ! $ move ! (1 ∷ []) $
+        split ! $ move ! (1 ∷ []) $ use1 W (raw (fact 𝓤 (r ≡ readerAt s n))) (new-said r) $ heard ! (r ≡ readerAt s n) (λ e. split ! $ move ! (1 ∷ []) $
         -- [what the reader owns; the token; what message owns; _8; …]
         peeks ! (Row (κ, tt)) (Is (Row (κ, tt))) (shows 𝓤 H A (Row (κ, tt))) r (u ∷ []) (λ is.
         land ! (from ! (stop !)) (init ! 13 refl (LL.lawful (T.the-type α) (T′.the-laws α) 𝓤 H A W .typed r _ is .0)) $

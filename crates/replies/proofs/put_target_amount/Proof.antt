@@ -2,7 +2,7 @@ use mathlib.Core.Path.{_≡_, sym, _∙_}
 use native.Mathlib.Omega.{arith}
 use lib.ListN.{length-drop}
 use Rattle.octets.proofs.Parts.{rest-part}
-use Rattle.octets.proofs.Writing.{lent-behind}
+use Rattle.octets.proofs.Writing.{lent-after}
 use Rattle.writers.proofs.Tlvs.{length-target, length-allocation}
 use Rattle.replies.proofs.Refusals.{length-target-amount}
 use borrow.Author.Needs.{needs}
@@ -24,7 +24,7 @@ add-result c = omega (arith, length-target (c .before .before .before .before .b
 returns : tie.Need-returns
 returns c = record {
   size = omega (arith, length-target (c .before .before .before .before .before .before .before .before .before .before .args .id .now), c .before .before .before .before .before .before .put-target .ensures .size, length-allocation (c .before .before .before .before .before .before .before .before .before .before .args .amount), c .before .before .put-allocation .ensures .size, length-target-amount (c .before .before .before .before .before .before .before .before .before .before .args .id .now) (c .before .before .before .before .before .before .before .before .before .before .args .amount));
-  text = lent-behind _ _ _ _ (c .before .before .before .before .before .before .put-target .ensures .text) (sym (c .before .before .before .before .before .before .put-target .ensures .size)) (c .before .before .put-allocation .ensures .text);
+  text = lent-after _ _ _ _ (c .before .before .before .before .before .before .put-target .ensures .text) (sym (c .before .before .before .before .before .before .put-target .ensures .size)) (c .before .before .put-allocation .ensures .text);
 }
 
 pub put-target-amount-spec : {M : Type 1} → statement M

@@ -12,7 +12,7 @@ use borrow.Fn.Kinds.{In}
 use borrow.Fn.PlainCycle.{Measures, is, falls, and}
 use Rattle.octets.specs.Numbers.{padded}
 use Rattle.octets.proofs.Parts.{rest-part}
-use Rattle.tlv.specs.Depth.{entered, insideOk, allTlvs, listOk}
+use Rattle.tlv.specs.Depth.{heldOk, insideOk, allTlvs, listOk}
 use Rattle.tlv.proofs.Firsts.{tlv-fits}
 use Rattle.tlv.proofs.Holders.{holds-fits, enters}
 use Rattle.tlv.proofs.Depth.{all-end, all-broken, all-tlv, list-pos}
@@ -63,15 +63,15 @@ list-claims t = (first-tlv-reads.Asked, first-tlv-reads.Learnt, check-inside-bel
 
 -- ---- one TLV's inside
 inside-returns : (t : ℕ) → check-inside-lts.Need-returns (inside-claims t) (check-inside-at t) check-inside.Post
-unfolding entered
+unfolding heldOk
 inside-returns t c = enters _ _ _ (c .before .before .inside-of .ensures) (listOk _) (c .enum-told .given .1)
 
 inside-returns-2 : (t : ℕ) → check-inside-lts.Need-returns-2 (inside-claims t) (check-inside-at t) check-inside.Post
-unfolding entered
+unfolding heldOk
 inside-returns-2 t c = enters _ _ _ (c .before .before .inside-of .ensures) (listOk _) (c .enum-told2 .given .1)
 
 inside-returns-3 : (t : ℕ) → check-inside-lts.Need-returns-3 (inside-claims t) (check-inside-at t) check-inside.Post
-unfolding entered
+unfolding heldOk
 inside-returns-3 t c =
     let a = c .before .before .before .before .before .before .before .args in
     c .check-list .ensures

@@ -11,7 +11,7 @@ use borrow.Author.Needs.{needs}
 use Rattle.transfers.proofs.transfer.Statement.{statement}
 use Rattle.transfers.proofs.transfer.Tie as tie
 
-asked : (c : tie.Else1) → answers (c .before .before .before .args .terms .x) (c .before .before .before .args .h .transaction) ≡ true
+asked : (c : tie.Else1) → answers (c .before .before .before .args .terms .port) (c .before .before .before .args .h .transaction) ≡ true
 asked c = sym (c .before .answers .ensures) ∙ not-false _ (c .if1 .left)
 
 success : (c : tie.Else2) → eqb (c .before .before .before .before .before .args .h .result) 4 ≡ false

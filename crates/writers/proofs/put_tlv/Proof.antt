@@ -5,7 +5,7 @@ use Prim.Native.Nat.{ℕ, _+_, _-_}
 use lib.ListN.{length, replicate, length-append}
 use Rattle.octets.specs.Numbers.{oct16, padded}
 use Rattle.octets.proofs.Numbers.{length-oct16}
-use Rattle.octets.proofs.Writing.{lent-behind}
+use Rattle.octets.proofs.Writing.{lent-after}
 use Rattle.writers.specs.Tlvs.{tlvOf}
 use Rattle.writers.proofs.Tlvs.{length-tlv}
 use borrow.Author.Needs.{needs}
@@ -18,8 +18,8 @@ returns c = let a = c .before .before .before .before .before .before .before .b
     let k : c .before .before .before .before .before .before .before .before .before .before .before .before .pad .result - length w ≡ padded (length w) - length w = omega arith in
     record {
       size = omega (arith, length-tlv (a .kind) w, c .before .before .before .before .before .before .before .before .before .before .before .before .pad .ensures);
-      text = lent-behind (h ++ w) _ _ (4 + length w)
-          (lent-behind h w _ 4 (c .before .before .before .before .before .before .before .before .before .before .put-pair .ensures) (simp (length-append, length-oct16)) (c .before .before .before .before .before .before .put-copy .ensures))
+      text = lent-after (h ++ w) _ _ (4 + length w)
+          (lent-after h w _ 4 (c .before .before .before .before .before .before .before .before .before .before .put-pair .ensures) (simp (length-append, length-oct16)) (c .before .before .before .before .before .before .put-copy .ensures))
           (simp (length-append, length-oct16)) (rw k at (c .before .before .put-zeros .ensures));
     }
 

@@ -13,8 +13,8 @@ use Rattle.fields.specs.Fields.{commandIn}
 use Rattle.flows.specs.declared.Flow.{Flow}
 use Rattle.flows.specs.Flows.{goodFlow}
 use Rattle.flow_octets.specs.FlowOctets.{flowFormed, flowNamed}
-use Rattle.commands.specs.Orders.{flowsAsked, flowCount, flowContent, shapeOk, Order, flowOrder, orderOf}
-use Rattle.commands.specs.Orders.Order.{ill, add, delete, deleteAll}
+use Rattle.commands.specs.Directives.{flowsAsked, flowCount, flowContent, shapeOk, Directive, flowDirective, directiveOf}
+use Rattle.commands.specs.Directives.Directive.{malformed, add, delete, deleteAll}
 
 -- the tests of a shape
 abbrev tests : List ℕ → List Bool
@@ -48,53 +48,53 @@ module _ (c : List ℕ) {x : Command} (e : x ≡ commandIn c) where
       (λ h. every-by (tests c) (le-leb 1 (commandIn c .code) (omega (arith, code-is)), (le-leb (commandIn c .code) 3 (omega (arith, code-is)), (le-leb (commandIn c .accounting) 1 (omega (arith, accounting-is)), (h, tt)))))
       (λ h. each (tests c) h .1 .1 .1 .0)
 
-  abbrev asks : Order
-  asks = flowOrder (commandIn c .code) (commandIn c .accounting) (flowContent c)
+  abbrev asks : Directive
+  asks = flowDirective (commandIn c .code) (commandIn c .accounting) (flowContent c)
 
-  pub order-64 : shapeOk c ≡ false → ill 0x64 ≡ orderOf c
-  unfolding orderOf
-  order-64 h = left (shapeOk c) (cond (eqb (commandIn c .code) 3) deleteAll asks) (ill 0x64) h
+  pub directive-64 : shapeOk c ≡ false → malformed 0x64 ≡ directiveOf c
+  unfolding directiveOf
+  directive-64 h = left (shapeOk c) (cond (eqb (commandIn c .code) 3) deleteAll asks) (malformed 0x64) h
 
   module _ (ok : shapeOk c ≡ true) where
-    past : cond (eqb (commandIn c .code) 3) deleteAll asks ≡ orderOf c
-    unfolding orderOf
-    past = taken (shapeOk c) (cond (eqb (commandIn c .code) 3) deleteAll asks) (ill 0x64) ok
+    past : cond (eqb (commandIn c .code) 3) deleteAll asks ≡ directiveOf c
+    unfolding directiveOf
+    past = taken (shapeOk c) (cond (eqb (commandIn c .code) 3) deleteAll asks) (malformed 0x64) ok
 
-    pub order-all : x .code ≡ 3 → deleteAll ≡ orderOf c
-    order-all h = taken (eqb (commandIn c .code) 3) deleteAll asks (eq-eqb _ 3 (sym code-is ∙ h)) ∙ past
+    pub directive-all : x .code ≡ 3 → deleteAll ≡ directiveOf c
+    directive-all h = taken (eqb (commandIn c .code) 3) deleteAll asks (eq-eqb _ 3 (sym code-is ∙ h)) ∙ past
 
-    pub order-flow : (x .code ≡ 3 → ⊥) → {t : List ℕ} → t ≡ flowContent c → flowOrder (x .code) (x .accounting) t ≡ orderOf c
-    order-flow h et =
-        ap₂ (λ (y : Command) (u : List ℕ). flowOrder (y .code) (y .accounting) u) e et
+    pub directive-flow : (x .code ≡ 3 → ⊥) → {t : List ℕ} → t ≡ flowContent c → flowDirective (x .code) (x .accounting) t ≡ directiveOf c
+    directive-flow h et =
+        ap₂ (λ (y : Command) (u : List ℕ). flowDirective (y .code) (y .accounting) u) e et
         ∙ left (eqb (commandIn c .code) 3) deleteAll asks (ne-eqb _ 3 (λ q. h (code-is ∙ q))) ∙ past
 
 -- an Add or a Delete of the flow with content c
 module _ (code accounting : ℕ) (c : List ℕ) where
-  abbrev kind : Order
+  abbrev kind : Directive
   kind = cond (eqb code 1) (add (flowNamed c) accounting) (delete (flowNamed c))
 
-  abbrev good : Order
-  good = cond (goodFlow (flowNamed c)) kind (ill 0x65)
+  abbrev good : Directive
+  good = cond (goodFlow (flowNamed c)) kind (malformed 0x65)
 
-  pub order-55 : flowFormed c ≡ false → ill 0x55 ≡ flowOrder code accounting c
-  unfolding flowOrder
-  order-55 h = left (flowFormed c) good (ill 0x55) h
+  pub directive-55 : flowFormed c ≡ false → malformed 0x55 ≡ flowDirective code accounting c
+  unfolding flowDirective
+  directive-55 h = left (flowFormed c) good (malformed 0x55) h
 
   -- f is the flow that it names
   module _ (formed : flowFormed c ≡ true) {f : Flow} (e : f ≡ flowNamed c) where
-    here : good ≡ flowOrder code accounting c
-    unfolding flowOrder
-    here = taken (flowFormed c) good (ill 0x55) formed
+    here : good ≡ flowDirective code accounting c
+    unfolding flowDirective
+    here = taken (flowFormed c) good (malformed 0x55) formed
 
-    pub order-65 : goodFlow f ≡ false → ill 0x65 ≡ flowOrder code accounting c
-    order-65 h = left (goodFlow (flowNamed c)) kind (ill 0x65) (sym (ap goodFlow e) ∙ h) ∙ here
+    pub directive-65 : goodFlow f ≡ false → malformed 0x65 ≡ flowDirective code accounting c
+    directive-65 h = left (goodFlow (flowNamed c)) kind (malformed 0x65) (sym (ap goodFlow e) ∙ h) ∙ here
 
     module _ (h : goodFlow f ≡ true) where
-      sound : kind ≡ flowOrder code accounting c
-      sound = taken (goodFlow (flowNamed c)) kind (ill 0x65) (sym (ap goodFlow e) ∙ h) ∙ here
+      sound : kind ≡ flowDirective code accounting c
+      sound = taken (goodFlow (flowNamed c)) kind (malformed 0x65) (sym (ap goodFlow e) ∙ h) ∙ here
 
-      pub order-add : code ≡ 1 → add f accounting ≡ flowOrder code accounting c
-      order-add one = ap (λ (g : Flow). add g accounting) e ∙ taken (eqb code 1) (add (flowNamed c) accounting) (delete (flowNamed c)) (eq-eqb code 1 one) ∙ sound
+      pub directive-add : code ≡ 1 → add f accounting ≡ flowDirective code accounting c
+      directive-add one = ap (λ (g : Flow). add g accounting) e ∙ taken (eqb code 1) (add (flowNamed c) accounting) (delete (flowNamed c)) (eq-eqb code 1 one) ∙ sound
 
-      pub order-delete : (code ≡ 1 → ⊥) → delete f ≡ flowOrder code accounting c
-      order-delete other = ap delete e ∙ left (eqb code 1) (add (flowNamed c) accounting) (delete (flowNamed c)) (ne-eqb code 1 other) ∙ sound
+      pub directive-delete : (code ≡ 1 → ⊥) → delete f ≡ flowDirective code accounting c
+      directive-delete other = ap delete e ∙ left (eqb code 1) (add (flowNamed c) accounting) (delete (flowNamed c)) (ne-eqb code 1 other) ∙ sound

@@ -30,25 +30,25 @@ shapeOk c =
     ∷ eqb (flowCount c) (flowsAsked (commandIn c .code))
     ∷ [])
 
-pub data Order : Type 0 where
+pub data Directive : Type 0 where
   -- not well-formed, with the result code that says so
-  ill : ℕ → Order
+  malformed : ℕ → Directive
   -- an Add of a flow, with its accounting
-  add : Flow → ℕ → Order
-  delete : Flow → Order
-  deleteAll : Order
+  add : Flow → ℕ → Directive
+  delete : Flow → Directive
+  deleteAll : Directive
 
 -- a flow whose fields and address are good is added or deleted
-unfoldable pub flowOrder : ℕ → ℕ → List ℕ → Order
-flowOrder code accounting c =
+unfoldable pub flowDirective : ℕ → ℕ → List ℕ → Directive
+flowDirective code accounting c =
     cond (flowFormed c)
     (cond (goodFlow (flowNamed c))
     (cond (eqb code 1) (add (flowNamed c) accounting) (delete (flowNamed c)))
-    (ill 0x65))
-    (ill 0x55)
+    (malformed 0x65))
+    (malformed 0x55)
 
-unfoldable pub orderOf : List ℕ → Order
-orderOf c =
+unfoldable pub directiveOf : List ℕ → Directive
+directiveOf c =
     cond (shapeOk c)
-    (cond (eqb (commandIn c .code) 3) deleteAll (flowOrder (commandIn c .code) (commandIn c .accounting) (flowContent c)))
-    (ill 0x64)
+    (cond (eqb (commandIn c .code) 3) deleteAll (flowDirective (commandIn c .code) (commandIn c .accounting) (flowContent c)))
+    (malformed 0x64)

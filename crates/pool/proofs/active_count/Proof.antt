@@ -4,8 +4,8 @@ use native.Mathlib.Omega.{arith}
 use Rattle.rows.proofs.Nexts.{next-stands}
 use Rattle.pool.proofs.Turns.{Stands, sumBefore, ones, count-most, sum-start, sum-mine, sum-skip, sum-end}
 use borrow.Author.Needs.{needs}
-use Rattle.pool.proofs.count_of.Statement.{statement}
-use Rattle.pool.proofs.count_of.Tie as tie
+use Rattle.pool.proofs.active_count.Statement.{statement}
+use Rattle.pool.proofs.active_count.Tie as tie
 
 abbrev Inv-loop : tie.InvT-loop
 Inv-loop owner p n₀ i₀ n i = Stands owner p i × (n ≡ sumBefore owner p ones i)
@@ -29,8 +29,8 @@ loop-again c =
 returns : tie.Need-returns Inv-loop μ-loop
 returns c = let a = c .before .before .before .args in let h = c .before .loop in sum-end (a .owner .now) (a .p) ones (h .i) (h .inv .1) (h .inv .0 .0) (c .loop-test .left)
 
-pub count-of-spec : {M : Type 1} → statement M
-count-of-spec =
+pub active-count-spec : {M : Type 1} → statement M
+active-count-spec =
     tie.close
     (tie.spec
     Inv-loop
