@@ -1,4 +1,5 @@
-//! A second card, written from document 01 and the decisions on its corners, and what compares it with the proved one.
+//! A second card, written from the card's rules and the decisions on their corners, and what compares it with the
+//! proved one.
 pub mod calls;
 pub mod card;
 pub mod flow;

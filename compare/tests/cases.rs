@@ -1,4 +1,4 @@
-//! The paper's own cases, on both cards at once.
+//! The worked cases (CARD.md), on both cards at once.
 use compare::calls::{add_all, Call};
 use compare::host::{HostChannel, HostEntry, HostFlow, HostId, Start};
 use compare::messages::set_lengths;

@@ -1,4 +1,4 @@
--- The messages that the card begins (01, "What comes back from a call"). Assumes nothing: these are definitions.
+-- The messages that the card begins (CARD.md, "What the card writes"). Assumes nothing: these are definitions.
 use Prim.Native.Nat.{ℕ}
 use mathlib.Core.List.{List, _++_}
 use Rattle.flows.specs.declared.Flow.{Flow}

@@ -1,4 +1,5 @@
--- Port up, port down, set delegation and leave, check by check in 01's order. Assumes nothing: these are definitions.
+-- Port up, port down, set delegation and leave, check by check in CARD.md's order. Assumes nothing: these are
+-- definitions.
 use Prim.Native.Nat.{ℕ}
 use mathlib.Core.Bool.{cond}
 use mathlib.Core.List.{List}

@@ -1,4 +1,4 @@
--- What a call comes to (01, "What comes back from a call"): the card after it, the number, the reply's octets.
+-- What a call comes to (CARD.md, "Calls and their numbers"): the card after it, the number, the reply's octets.
 -- Assumes nothing: these are definitions.
 use Prim.Native.Nat.{ℕ}
 use mathlib.Core.Path.{_≡_}

@@ -1,4 +1,4 @@
--- Start (01, number 14). Assumes nothing: these are definitions.
+-- Start (CARD.md, "Calls and their numbers": number 14). Assumes nothing: these are definitions.
 use Prim.Native.Nat.{ℕ}
 use mathlib.Core.Path.{_≡_}
 use mathlib.Core.Bool.{Bool, false, cond}

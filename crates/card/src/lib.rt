@@ -37,7 +37,7 @@ pub struct Core {
     pub head: CardHead,
 }
 
-// What a call on a core by value returns: the core after it, the number of 01's table, and how many octets of reply
+// What a call on a core by value returns: the core after it, the call's number, and how many octets of reply
 // are written.
 #[repr(C)]
 pub struct Returned {
@@ -56,7 +56,7 @@ pub struct Terms {
     pub port: Port,
 }
 
-// What a call on lent maps gives: the number of 01's table, how many octets of reply are written, the head after it,
+// What a call on lent maps gives: the call's number, how many octets of reply are written, the head after it,
 // and what becomes of the port's record.
 #[repr(C)]
 pub struct Effect {

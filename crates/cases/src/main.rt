@@ -1,4 +1,5 @@
-// The worked cases of 01 that the host's calls reach, played and compared with the file stdout. Each line gives what a call answered.
+// The worked cases (CARD.md) that the host's calls reach, played and compared with the file stdout. Each line gives
+// what a call answered.
 use calls::HostCall;
 use card::Core;
 use card::Returned;

@@ -1,5 +1,5 @@
--- The TLVs that a message's rules name (01, "A message, check by check"): which are missing, and which is at fault.
--- Assumes nothing: these are definitions.
+-- The TLVs that a message's rules name (CARD.md, "A message, check by check"): which are missing, and which is at
+-- fault. Assumes nothing: these are definitions.
 use Prim.Native.Nat.{ℕ}
 use mathlib.Core.Bool.{Bool, true, cond, not, _||_}
 use mathlib.Core.List.{List, [], _∷_, _++_}

@@ -1,5 +1,6 @@
--- The table of result codes (01, "A message, check by check"): row by row, each over the whole message before the next, and what the
--- Status-Info of each encloses. s is what follows the header. Assumes nothing: these are definitions.
+-- The table of result codes (CARD.md, "A message, check by check"): row by row, each over the whole message before the
+-- next, and what the Status-Info of each encloses. s is what follows the header. Assumes nothing: these are
+-- definitions.
 use Prim.Native.Nat.{ℕ, _<_}
 use mathlib.Core.Path.{_≡_}
 use mathlib.Core.Bool.{Bool, true, false, cond, _||_}

@@ -1,4 +1,4 @@
-// The rows of 01's table that all messages go through, and the refusals that answer them.
+// The rows of the card's table that all messages go through, and the refusals that answer them.
 use fields::ALLOCATION;
 use fields::COMMAND;
 use fields::REQUEST;

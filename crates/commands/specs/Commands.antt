@@ -1,4 +1,5 @@
--- One command of a 144 on port p (01, "144"): the card after it, and the result code, 0 for success. Assumes nothing: these are definitions.
+-- One command of a 144 on port p (CARD.md, "Multicast Replication Control (144)"): the card after it, and the result
+-- code, 0 for success. Assumes nothing: these are definitions.
 use Prim.Native.Nat.{ℕ}
 use mathlib.Core.Path.{_≡_}
 use mathlib.Core.Bool.{cond}

@@ -1,4 +1,5 @@
--- What a Command asks for, read off its content c (01, "144"): 0x64, 0x55, 0x65, else well-formed. Assumes nothing: these are definitions.
+-- What a Command asks for, read off its content c (CARD.md, "Multicast Replication Control (144)"): 0x64, 0x55, 0x65,
+-- else well-formed. Assumes nothing: these are definitions.
 use Prim.Native.Nat.{ℕ}
 use mathlib.Core.Bool.{Bool, cond}
 use mathlib.Core.List.{List, [], _∷_}

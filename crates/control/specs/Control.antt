@@ -1,5 +1,6 @@
--- Multicast Replication Control (144), past the table: commands run in order, the first failure ends the message and keeps the
--- commands before it (01, "144"). Assumes nothing: these are definitions.
+-- Multicast Replication Control (144), past the table: commands run in order, the first failure ends the message and
+-- keeps the commands before it (CARD.md, "Multicast Replication Control (144)"). Assumes nothing: these are
+-- definitions.
 use Prim.Native.Nat.{ℕ, _+_}
 use mathlib.Core.Bool.{cond}
 use mathlib.Core.List.{List, [], _∷_, _++_}

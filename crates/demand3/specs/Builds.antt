@@ -1,5 +1,6 @@
--- Worthless builds of 01 that are about state: each has our start and readers but for what is said, and the claim fails for it.
--- Assumes nothing: these are definitions; the statements are proved in proofs/, and owed with the claim.
+-- Worthless builds (CARD.md, "What is promised") that are about state: each has our start and readers but for what is
+-- said, and the claim fails for it. Assumes nothing: these are definitions; the statements are proved in proofs/, and
+-- owed with the claim.
 use Prim.Native.Nat.{ℕ}
 use mathlib.Core.Bool.{cond}
 use mathlib.Core.List.{List, [], _∷_}

@@ -1,4 +1,4 @@
--- The ledger (01, "What the promises say"): what a reader of the calls' arguments, numbers and replies writes down of each port.
+-- The ledger (DEMAND3.md): what a reader of the calls' arguments, numbers and replies writes down of each port.
 -- It is fed nothing else, and never looks at a card. Assumes nothing: these are definitions.
 use Prim.Native.Nat.{ℕ, _-_}
 use mathlib.Core.Bool.{Bool, true, false, cond, _&&_, _||_}

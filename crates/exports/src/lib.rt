@@ -47,7 +47,7 @@ pub extern "C" fn ancp_card_started(
 
 // ---- the calls, on the card where the host keeps it
 
-// The number of 01's table, and how many octets of reply are written.
+// The call's number, and how many octets of reply are written.
 #[repr(C)]
 pub struct Answer {
     pub number: u8,

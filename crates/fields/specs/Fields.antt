@@ -1,4 +1,4 @@
--- The fields of a TLV with content c (01, "Octets"). An octet past the end of c counts as 0.
+-- The fields of a TLV with content c (CARD.md, "Octets"). An octet past the end of c counts as 0.
 -- Assumes nothing: these are definitions.
 use Prim.Native.Nat.{ℕ, _+_}
 use mathlib.Core.List.{List}

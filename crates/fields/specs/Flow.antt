@@ -1,5 +1,5 @@
--- The fields of a Multicast-Flow 0x0019 with content c (01, "Octets"): flow type (8), family (8), source count (16), group, sources.
--- Assumes nothing: these are definitions.
+-- The fields of a Multicast-Flow 0x0019 with content c (CARD.md, "Octets"): flow type (8), family (8), source count
+-- (16), group, sources. Assumes nothing: these are definitions.
 use Prim.Native.Nat.{ℕ, _+_, _*_}
 use mathlib.Core.List.{List, [], _∷_}
 use mathlib.Core.Bool.{Bool, false, cond}

@@ -1,4 +1,4 @@
--- A flow as a Multicast-Flow TLV (01, "Octets"): flow type (1 ASM, 2 SSM), family, source count, group, source.
+-- A flow as a Multicast-Flow TLV (CARD.md, "Octets"): flow type (1 ASM, 2 SSM), family, source count, group, source.
 -- Assumes nothing: these are definitions.
 use Prim.Native.Nat.{ℕ, _+_, _*_, _%_}
 use mathlib.Core.Path.{_≡_}

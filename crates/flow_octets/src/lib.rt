@@ -1,4 +1,4 @@
-// A flow as a Multicast-Flow TLV (01, "Octets"): read from its content, and written.
+// A flow as a Multicast-Flow TLV (CARD.md, "Octets"): read from its content, and written.
 ghost use mathlib.Core.Path.{_≡_};
 ghost use mathlib.Core.Bool.{true};
 ghost use Prim.Native.Nat.{_+_, _*_, _≤_, _<_};

@@ -1,5 +1,5 @@
 -- What a good flow has, as facts.
---     good-flow        a flow whose address is good has what 01 asks of it
+--     good-flow        a flow whose address is good has what is asked of it
 --     zeros-drop       of words that are all zero those from a place on are, and zeros-all says which they are
 -- Assumes nothing.
 use Prim.Native.Nat.{ℕ, zero, suc, _≤_}

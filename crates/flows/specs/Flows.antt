@@ -1,4 +1,4 @@
--- Flows (01, "Flows, lists, records"). Assumes nothing: these are definitions.
+-- Flows (CARD.md, "Flows and lists"). Assumes nothing: these are definitions.
 use Prim.Native.Nat.{ℕ, _/_, _^_}
 use mathlib.Core.Bool.{Bool, true, false, cond, not, _||_}
 use mathlib.Core.List.{List, [], _∷_}

@@ -1,4 +1,4 @@
-// A flow: family, group, and source or none (01, "Flows, lists, records"): equality, good addresses, order.
+// A flow: family, group, and source or none (CARD.md, "Flows and lists"): equality, good addresses, order.
 ghost use mathlib.Core.Path.{_≡_};
 ghost use Prim.Native.Nat.{_≤_};
 ghost use Rattle.flows.specs.Words.{same, zeroFrom, wordOrder, wordsOrder, orElse};

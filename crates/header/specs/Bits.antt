@@ -1,4 +1,5 @@
--- The two 16-bit fields of the header that two numbers share (01, "Octets"). Assumes nothing: these are definitions.
+-- The two 16-bit fields of the header that two numbers share (CARD.md, "Octets"). Assumes nothing: these are
+-- definitions.
 use Prim.Native.Nat.{ℕ, _+_, _*_, _/_, _%_}
 
 -- four bits of Result, and twelve of Result Code

@@ -1,5 +1,5 @@
--- The header of a message (01, "Octets"): when a message is unusable, what its header says, and how a header is written.
--- Assumes nothing: these are definitions.
+-- The header of a message (CARD.md, "Octets"): when a message is unusable, what its header says, and how a header is
+-- written. Assumes nothing: these are definitions.
 use Prim.Native.Nat.{ℕ, _+_, _-_}
 use mathlib.Core.List.{List, [], _∷_, _++_}
 use mathlib.Core.Bool.{Bool, cond}

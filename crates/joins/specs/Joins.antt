@@ -1,4 +1,5 @@
--- Join, check by check in 01's order: 13, 7, 6, 8, 9, 1, then lists (3 or 2), 5, 4. Assumes nothing: these are definitions.
+-- Join, check by check in CARD.md's order: 13, 7, 6, 8, 9, 1, then lists (3 or 2), 5, 4. Assumes nothing: these are
+-- definitions.
 use Prim.Native.Nat.{ℕ, _+_}
 use mathlib.Core.Path.{_≡_}
 use mathlib.Core.Bool.{Bool, cond}

@@ -1,4 +1,4 @@
--- What stands highest decides as the sentence of 01 says, and how a loop finds it.
+-- What stands highest decides as the rule says, and how a loop finds it.
 --     decision-is                          the decision is that of the highest standing, for any entries
 --     turn-raise, turn-other, turn-low     one turn of the search for it
 -- Assumes nothing.

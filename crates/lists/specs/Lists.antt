@@ -1,4 +1,4 @@
--- List entries and what they decide (01, "Flows, lists, records"). Assumes nothing: these are definitions.
+-- List entries and what they decide (CARD.md, "Flows and lists"). Assumes nothing: these are definitions.
 use Prim.Native.Nat.{ℕ, zero, suc, _+_, _*_, max, min}
 use mathlib.Core.Bool.{Bool, false, cond, _&&_, _||_}
 use mathlib.Core.List.{List, [], _∷_}

@@ -1,4 +1,5 @@
--- What a message m that is handed in comes to (01, "A message, check by check"). Assumes nothing: these are definitions.
+-- What a message m that is handed in comes to (CARD.md, "A message, check by check"). Assumes nothing: these are
+-- definitions.
 use Prim.Native.Nat.{ℕ}
 use mathlib.Core.Bool.{Bool, cond, _&&_, _||_}
 use mathlib.Core.List.{List}

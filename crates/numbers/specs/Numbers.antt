@@ -1,4 +1,4 @@
--- The circle of transaction numbers: 1 to 16,777,215, and then 1 again (01, "What comes back from a call").
+-- The circle of transaction numbers: 1 to 16,777,215, and then 1 again (CARD.md, "What the card writes").
 -- Assumes nothing: these are definitions.
 use Prim.Native.Nat.{ℕ, zero, suc, _+_, _-_, _<_}
 use mathlib.Core.Path.{_≡_}

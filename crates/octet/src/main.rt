@@ -1,4 +1,5 @@
-// The octet program of 01: one port `p1`, up, with delegation 4000, is handed the message on standard input; prints the answer.
+// The octet program: one port `p1`, up, with delegation 4000, is handed the message on standard input; prints the
+// answer.
 
 // Which channels and lists the card has is the program's choice: none.
 struct Tables {

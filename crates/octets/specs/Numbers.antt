@@ -1,4 +1,4 @@
--- Numbers in octets, big-endian, and padding (01, "Octets"). Assumes nothing: these are definitions.
+-- Numbers in octets, big-endian, and padding (CARD.md, "Octets"). Assumes nothing: these are definitions.
 -- An octet that is read past the end counts as 0; every caller has tested the length before.
 use Prim.Native.Nat.{ℕ, _+_, _*_, _/_, _%_}
 use mathlib.Core.List.{List, [], _∷_}

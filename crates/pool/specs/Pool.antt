@@ -1,5 +1,6 @@
--- The 512 flow records (01, "Flows, lists, records"). Assumes nothing: these are definitions.
--- A figure that a function reads off lent maps is defined on the maps (`countIn owner`), and of a pool it is that of its maps.
+-- The 512 flow records (CARD.md, "Records and room"). Assumes nothing: these are definitions.
+-- A figure that a function reads off lent maps is defined on the maps (`countIn owner`), and of a pool it is that of
+-- its maps.
 use Prim.Native.Nat.{ℕ, _-_}
 use mathlib.Core.Path.{_≡_}
 use mathlib.Core.Bool.{Bool, true, false, cond, _&&_, _||_}

@@ -1,5 +1,5 @@
--- One port's record (01, "Flows, lists, records"): up or down, delegation, at most one open request. Its flows are in the pool.
--- Assumes nothing: these are definitions.
+-- One port's record (CARD.md, "Records and room"): up or down, delegation, at most one open request. Its flows are in
+-- the pool. Assumes nothing: these are definitions.
 use Prim.Native.Nat.{ℕ}
 use mathlib.Core.Bool.{Bool, true, false, cond, not}
 use mathlib.Core.List.{[], _∷_}

@@ -1,4 +1,4 @@
--- The transaction counter (01, "What comes back from a call"). Assumes nothing: these are definitions.
+-- The transaction counter (CARD.md, "What the card writes"). Assumes nothing: these are definitions.
 use Prim.Native.Nat.{ℕ, _+_}
 use mathlib.Core.Bool.{cond}
 use lib.Dec.{leb}

@@ -1,4 +1,4 @@
--- Whole messages that the card writes (01, "What comes back from a call" and "A message, check by check").
+-- Whole messages that the card writes (CARD.md, "What the card writes").
 -- Assumes nothing: these are definitions.
 use Prim.Native.Nat.{ℕ}
 use mathlib.Core.List.{List, [], _++_}

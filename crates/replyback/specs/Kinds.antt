@@ -1,5 +1,5 @@
--- Each kind of message that the card writes reads back as the same fields (01, "What comes back from a call" and "A message, check
--- by check"). Assumes nothing: these are definitions; the statements are proved in proofs/, and owed by `replyback::largest_reply`.
+-- Each kind of message that the card writes reads back as the same fields (CARD.md, "What the card writes"). Assumes
+-- nothing: these are definitions; the statements are proved in proofs/, and owed by `replyback::largest_reply`.
 use Prim.Native.Nat.{ℕ, _<_}
 use mathlib.Core.Path.{_≡_}
 use mathlib.Core.Bool.{true, false}

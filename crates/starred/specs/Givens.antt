@@ -1,5 +1,5 @@
--- The tables, cards and calls of 01's starred cases: whole cards of 64 ports and 512 records. In every case port 0 is the one that is
--- spoken of. Assumes nothing: these are definitions.
+-- The tables, cards and calls of the starred cases: whole cards of 64 ports and 512 records. In every case port 0 is
+-- the one that is spoken of. Assumes nothing: these are definitions.
 use Prim.Native.Nat.{ℕ, suc, _+_, _-_}
 use mathlib.Core.Bool.{true, false}
 use mathlib.Core.List.{List, [], _∷_, _++_, flatMap}

@@ -1,5 +1,6 @@
--- The starred cases of 01 ("Cases on both sides") as one table under a single statement, `Starred`: each call on its card shows what is
--- expected. Assumes nothing: these are definitions; the statement is proved in proofs/, and owed by `starred::starred_cases`.
+-- The starred cases (CARD.md, "Worked cases") as one table under a single statement, `Starred`: each call on its card
+-- shows what is expected. Assumes nothing: these are definitions; the statement is proved in proofs/, and owed by
+-- `starred::starred_cases`.
 use Prim.Native.Nat.{ℕ}
 use mathlib.Core.Path.{_≡_}
 use mathlib.Core.Bool.{Bool, true, false}
@@ -60,7 +61,7 @@ pub record Row : Type 0 where
 abbrev pub row : Card → Call → Shown → Row
 row card call expected = record { given = record { card = card; call = call }; expected = expected }
 
--- in 01's order
+-- in CARD.md's order
 unfoldable pub caseRows : List Row
 caseRows =
     -- "Delegation 4000, committed 3000: rate 1000 starts*"

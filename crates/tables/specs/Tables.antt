@@ -1,4 +1,5 @@
--- What start takes of its tables; it refuses all others with number 14 (01, the sizes and "What comes back from a call"). Assumes nothing: these are definitions.
+-- What start takes of its tables; it refuses all others with number 14 (CARD.md, "Sizes" and "Calls and their
+-- numbers"). Assumes nothing: these are definitions.
 use Prim.Native.Nat.{ℕ, _*_}
 use mathlib.Core.Bool.{Bool}
 use mathlib.Core.List.{List, [], _∷_}

@@ -1,4 +1,4 @@
--- Lengths and depth (01, "Octets": a TLV may hold further TLVs). Assumes nothing: these are definitions.
+-- Lengths and depth (CARD.md, "Octets": a TLV may hold further TLVs). Assumes nothing: these are definitions.
 use Prim.Native.Nat.{ℕ, zero, suc, _+_}
 use mathlib.Core.List.{List}
 use mathlib.Core.Bool.{Bool, true, false, cond, _&&_, _||_}

@@ -1,4 +1,5 @@
--- What stands first in a list of TLVs (01, "Octets": type, length, content, padding). Assumes nothing: these are definitions.
+-- What stands first in a list of TLVs (CARD.md, "Octets": type, length, content, padding). Assumes nothing: these are
+-- definitions.
 use Prim.Native.Nat.{ℕ, _+_}
 use mathlib.Core.List.{List}
 use mathlib.Core.Bool.{cond}

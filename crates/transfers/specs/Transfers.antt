@@ -1,4 +1,5 @@
--- Bandwidth Reallocation Request (146) and Bandwidth Transfer (147), past the table (01). Assumes nothing: these are definitions.
+-- Bandwidth Reallocation Request (146) and Bandwidth Transfer (147), past the table (CARD.md, under these names).
+-- Assumes nothing: these are definitions.
 use Prim.Native.Nat.{ℕ, min, max}
 use mathlib.Core.Bool.{cond}
 use mathlib.Core.List.{List}

@@ -1,5 +1,5 @@
--- Lists of TLVs, and messages, that differ at most in what is not read (01, "Octets"): padding and reserved octets,
--- and the received Result Code. Assumes nothing: these are definitions.
+-- Lists of TLVs, and messages, that differ at most in what is not read (CARD.md, "Octets"): padding and reserved
+-- octets, and the received Result Code. Assumes nothing: these are definitions.
 use Prim.Native.Nat.{ℕ, _+_, _<_}
 use mathlib.Core.Path.{_≡_}
 use mathlib.Core.List.{List, _∷_, _++_}

@@ -1,4 +1,4 @@
--- The received Result Code, padding and reserved octets are not read (01, "Octets"), on any card. Assumes nothing:
+-- The received Result Code, padding and reserved octets are not read (CARD.md, "Octets"), on any card. Assumes nothing:
 -- these are definitions; the statements are proved in proofs/, and owed by `unread::code_bits`.
 use Prim.Native.Nat.{ℕ}
 use mathlib.Core.Path.{_≡_}

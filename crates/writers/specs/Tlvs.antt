@@ -1,4 +1,4 @@
--- The octets of the TLVs that the card writes (01, "Octets"). Padding and reserved fields are written as zero.
+-- The octets of the TLVs that the card writes (CARD.md, "Octets"). Padding and reserved fields are written as zero.
 -- Assumes nothing: these are definitions.
 use Prim.Native.Nat.{ℕ, _-_}
 use mathlib.Core.List.{List, [], _++_}

@@ -1,6 +1,6 @@
 -- What a call on a card writes: nothing, or one kind of message with its arguments, which reads back as exactly
--- these: header, and the whole list of TLVs with their contents (01, "What comes back from a call" and "A message,
--- check by check"). Assumes nothing: these are definitions; the statement is in Every.
+-- these: header, and the whole list of TLVs with their contents (CARD.md, "What the card writes"). Assumes nothing:
+-- these are definitions; the statement is in Every.
 use Prim.Native.Nat.{ℕ, _+_, _≤_, _<_}
 use mathlib.Core.Path.{_≡_}
 use mathlib.Core.List.{List, [], _∷_, _++_}
