@@ -1,26 +1,33 @@
 /* Whole calls of the card: a join against a plain C version on the same arrays, messages of growing size, and how much stack a call takes.
    Build and run: bench/run */
-#include "../include/ancp_card.h"
+#include "ancp_card.h"
 #include <pthread.h>
 #include <stdio.h>
+#include <stdlib.h>
 #include <string.h>
 #include <time.h>
 
 static ancp_tables tables;
-static uint8_t *const ids = tables.ids, reply[4608];
+static uint8_t reply[ANCP_REPLY];
 static uint32_t *const channels = tables.channels, *const entries = tables.entries;
 
 static double now(void) { struct timespec t; clock_gettime(CLOCK_MONOTONIC, &t); return t.tv_sec * 1e9 + t.tv_nsec; }
 
-static ancp_flow nth(unsigned k) { ancp_flow f = {1, 0, {0xE9000000u + k, 0, 0, 0}, {0, 0, 0, 0}}; return f; }
+static ancp_flow nth(unsigned k) { ancp_flow f = {ANCP_IPV4, 0, {0xE9000000u + k, 0, 0, 0}, {0, 0, 0, 0}}; return f; }
 
 /* 64 ports of one octet each, 256 channels of rate 1, 128 entries of which the last is white for all groups */
 static ancp_card fresh(bool add) {
-    for (unsigned p = 0; p < 64; p++) { ids[p * 64] = 1; ids[p * 64 + 1] = (uint8_t)(p + 1); }
-    for (unsigned k = 0; k < 256; k++) { uint32_t *r = channels + k * 11; r[0] = 1; r[2] = 1; r[3] = nth(k).group[0]; }
-    for (unsigned i = 0; i < 128; i++) { uint32_t *e = entries + i * 12; e[0] = 1; e[1] = 1; e[2] = i == 127 ? 4 : 32; e[4] = i == 127 ? 0xE0000000u : 0xEF000000u + i; }
-    ancp_card c = {ancp_card_started(ids, 64, channels, 256, entries, 128, true, add, 1).core};
-    for (size_t p = 0; p < 64; p++) { ancp_card_port_up(&c, &tables, p); ancp_card_set_delegation(&c, &tables, p, 1000000); }
+    static ancp_card c;
+    for (unsigned p = 0; p < ANCP_PORTS; p++) { uint8_t id = (uint8_t)(p + 1); ancp_set_port(&tables, p, &id, 1); }
+    for (unsigned k = 0; k < ANCP_CHANNELS; k++) { ancp_flow f = nth(k); ancp_set_channel(&tables, k, &f, 1); }
+    for (unsigned i = 0; i < ANCP_ENTRIES; i++) {
+        bool last = i == ANCP_ENTRIES - 1;
+        ancp_flow f = {ANCP_IPV4, 0, {last ? 0xE0000000u : 0xEF000000u + i, 0, 0, 0}, {0, 0, 0, 0}};
+        ancp_set_entry(&tables, i, ANCP_LIST_WHITE, &f, last ? 4 : 32, 0);
+    }
+    ancp_number number = ancp_card_start(&c, &tables, ANCP_PORTS, ANCP_CHANNELS, ANCP_ENTRIES, true, add, 1);
+    if (number != ANCP_DONE) { printf("start: %u\n", number); exit(1); }
+    for (size_t p = 0; p < ANCP_PORTS; p++) { ancp_card_port_up(&c, &tables, p); ancp_card_set_delegation(&c, &tables, p, 1000000); }
     return c;
 }
 
@@ -36,7 +43,7 @@ static ancp_card filled(bool add) {
 }
 
 /* the same join, plainly: on the card in place, without its reply */
-static bool same(const ancp_flow *a, const uint32_t *r) { return r[0] == a->family && r[1] == a->sourced && !memcmp(r + 3, a->group, 16) && !memcmp(r + 7, a->source, 16); }
+static bool same(const ancp_flow *a, const uint32_t *r) { return r[0] == (uint32_t)a->family && r[1] == a->sourced && !memcmp(r + 3, a->group, 16) && !memcmp(r + 7, a->source, 16); }
 
 static int prefix(uint32_t n, const uint32_t *a, const uint32_t *b) {
     for (int w = 0; w < 4 && n; w++) {
@@ -58,7 +65,7 @@ __attribute__((noinline)) static int plain_join(ancp_core *c, size_t p, const an
     uint32_t best = 0;
     for (size_t i = 0; i < c->head.entry_count; i++) {
         const uint32_t *e = entries + i * 12;
-        if (e[0] != f->family || !prefix(e[2], e + 4, f->group) || e[3] != 0) continue;
+        if (e[0] != (uint32_t)f->family || !prefix(e[2], e + 4, f->group) || e[3] != 0) continue;
         uint32_t s = e[2] * 4 + strength[e[1] & 3];
         if (s > best) best = s;
     }
@@ -191,6 +198,28 @@ static void messages(void) {
     }
 }
 
+/* ---- readers, against a port up: none changes the card */
+static void readers(void) {
+    enum { ROUNDS = 200000 };
+    static ancp_card c;
+    ancp_flow last = nth(15);
+    volatile uint64_t sink = 0;
+    c = filled(true);
+#define MEASURE(what, expression) do { \
+        double t0 = now(); \
+        for (int r = 0; r < ROUNDS; r++) sink += (uint64_t)(expression); \
+        printf("%-50s %8.1f ns\n", what, (now() - t0) / ROUNDS); \
+    } while (0)
+    MEASURE("port up, on an up port", ancp_card_port_up(&c, &tables, 20));
+    MEASURE("is up", ancp_card_is_up(&c, 20));
+    MEASURE("delegation", ancp_card_delegation(&c, 20));
+    MEASURE("committed, 16 flows", ancp_card_committed(&c, &tables, 20));
+    MEASURE("flows, 16 flows", ancp_card_flows(&c, &tables, 20).count);
+    MEASURE("is active, last of 16 flows", ancp_card_is_active(&c, &tables, 20, &last));
+    MEASURE("extras, full pool", ancp_card_extras(&c));
+    MEASURE("next transaction", ancp_card_next_transaction(&c));
+}
+
 /* ---- stack: the free part of a thread's own stack is painted before a call, and looked at after it; a call's frames lie below this one's */
 static uint8_t space[1 << 18] __attribute__((aligned(4096)));
 enum { GAP = 512 }; /* room for paint's own frame, which is not painted */
@@ -225,6 +254,12 @@ static void *deep(void *unused) {
     top = paint();
     answer = ancp_card_join(&c, &tables, 63, &last, reply, sizeof reply, NULL);
     printf("stack of a join (answer %u): %zu octets; a card has %zu\n", answer, used(top), sizeof(ancp_card));
+    top = paint();
+    answer = (unsigned)ancp_card_flows(&c, &tables, 0).count;
+    printf("stack of a reader (flows, %u): %zu octets\n", answer, used(top));
+    top = paint();
+    answer = ancp_card_start(&c, &tables, ANCP_PORTS, ANCP_CHANNELS, ANCP_ENTRIES, true, true, 1);
+    printf("stack of a start (answer %u): %zu octets\n", answer, used(top));
     return NULL;
 }
 
@@ -240,6 +275,7 @@ int main(void) {
     joins();
     messages();
     unusables();
+    readers();
 #ifndef __SANITIZE_ADDRESS__ /* a sanitizer's frames are not the library's */
     stack();
 #endif

@@ -1,12 +1,12 @@
 /* Finding a channel among 256 and deciding among 128 list entries: the proved functions against plain C loops, in one run.
    Build and run: bench/run */
-#include <stdint.h>
+#include "ancp_card.h"
 #include <stdio.h>
 #include <stdlib.h>
 #include <string.h>
 #include <time.h>
 
-typedef struct { uint32_t family, sourced, group[4], source[4]; } flow;
+typedef ancp_flow flow;
 
 uint32_t speed_channel(const uint32_t *channels, size_t n, flow f);
 uint32_t speed_list(const uint32_t *entries, size_t n, flow f);
@@ -16,7 +16,7 @@ static uint32_t channels[256 * 11], entries[128 * 12];
 __attribute__((noinline)) static uint32_t c_channel(const uint32_t *t, size_t n, const flow *f) {
     for (size_t i = 0; i < n; i++) {
         const uint32_t *r = t + i * 11;
-        if (r[0] == f->family && r[1] == f->sourced && !memcmp(r + 3, f->group, 16) && !memcmp(r + 7, f->source, 16)) return (uint32_t)i;
+        if (r[0] == (uint32_t)f->family && r[1] == f->sourced && !memcmp(r + 3, f->group, 16) && !memcmp(r + 7, f->source, 16)) return (uint32_t)i;
     }
     return 256;
 }
@@ -35,7 +35,7 @@ __attribute__((noinline)) static uint32_t c_list(const uint32_t *t, size_t n, co
     uint32_t best = 0;
     for (size_t i = 0; i < n; i++) {
         const uint32_t *e = t + i * 12;
-        if (e[0] != f->family || !prefix(e[2], e + 4, f->group)) continue;
+        if (e[0] != (uint32_t)f->family || !prefix(e[2], e + 4, f->group)) continue;
         if (f->sourced ? !prefix(e[3], e + 8, f->source) : e[3] != 0) continue;
         uint32_t standing = e[2] * 4 + (e[1] < 4 ? strength[e[1]] : 0);
         if (standing > best) best = standing;
@@ -67,7 +67,7 @@ static void fill(uint32_t family) {
     }
 }
 
-static flow row(int i) { flow f; const uint32_t *r = channels + i * 11; f.family = r[0]; f.sourced = r[1]; memcpy(f.group, r + 3, 16); memcpy(f.source, r + 7, 16); return f; }
+static flow row(int i) { flow f; const uint32_t *r = channels + i * 11; f.family = (ancp_family)r[0]; f.sourced = r[1]; memcpy(f.group, r + 3, 16); memcpy(f.source, r + 7, 16); return f; }
 
 int main(void) {
     enum { N = 200000 };

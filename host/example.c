@@ -4,6 +4,7 @@
    Use: example MESSAGE-FILE LIMIT-FILE [COUNT] */
 #define _POSIX_C_SOURCE 200809L
 #include "ancp_card.h"
+#include "ancp_text.h"
 #include <errno.h>
 #include <fcntl.h>
 #include <stdio.h>
@@ -20,13 +21,12 @@
 
 static ancp_tables tables;
 static ancp_card card;
-static ancp_flow channel = {ANCP_IPV4, 0, {0xE9FC0001u, 0, 0, 0}, {0, 0, 0, 0}};
-static ancp_flow grey = {ANCP_IPV4, 0, {0xE9FC0002u, 0, 0, 0}, {0, 0, 0, 0}};
+static ancp_flow channel, grey, all;
 static const char *limit_file;
 static uint32_t limit;
 
-static int failed(const char *what, uint8_t number) {
-    if (number != ANCP_DONE) fprintf(stderr, "%s: %u\n", what, number);
+static int failed(const char *what, ancp_number number) {
+    if (number != ANCP_DONE) fprintf(stderr, "%s: %u, %s\n", what, number, ancp_number_text(number));
     return number != ANCP_DONE;
 }
 
@@ -102,7 +102,7 @@ static int request(bool ask) {
         if (failed("set delegation", ancp_card_set_delegation(&card, &tables, 0, 4000))) return 1;
         if (failed("ask", ancp_card_ask(&card, &tables, 0, 5000, 6000, octets, sizeof octets, &length))) return 1;
     } else {
-        uint8_t number = ancp_card_join(&card, &tables, 0, &grey, octets, sizeof octets, &length);
+        ancp_number number = ancp_card_join(&card, &tables, 0, &grey, octets, sizeof octets, &length);
         if (number != ANCP_GREY) return fprintf(stderr, "grey join: %u\n", number), 1;
     }
     STEP();
@@ -122,15 +122,26 @@ static int received(const char *file) {
     }
     size_t n = fread(octets, 1, sizeof octets, in);
     fclose(in);
-    uint8_t number = ancp_card_message(&card, &tables, octets, n, reply, sizeof reply, &length);
+    ancp_number number = ancp_card_message(&card, &tables, octets, n, reply, sizeof reply, &length);
     printf("answer %u, reply of %zu octets: ", number, length);
     for (size_t i = 0; i < length; i++) printf("%02X", reply[i]);
     printf("\n");
     return 0;
 }
 
+/* One port, a white channel and a grey one. */
+static int filled(void) {
+    return failed("channel", ancp_flow_from_text(&channel, "233.252.0.1", NULL)) ||
+           failed("grey", ancp_flow_from_text(&grey, "233.252.0.2", NULL)) ||
+           failed("all", ancp_flow_from_text(&all, "224.0.0.0", NULL)) ||
+           failed("port", ancp_set_port(&tables, 0, "p1", 2)) ||
+           failed("channel", ancp_set_channel(&tables, 0, &channel, 1000)) ||
+           failed("channel", ancp_set_channel(&tables, 1, &grey, 1000)) ||
+           failed("entry", ancp_set_entry(&tables, 0, ANCP_LIST_WHITE, &all, 4, 0)) ||
+           failed("entry", ancp_set_entry(&tables, 1, ANCP_LIST_GREY, &grey, 32, 0));
+}
+
 int main(int argc, char **argv) {
-    ancp_flow all = {ANCP_IPV4, 0, {0xE0000000u, 0, 0, 0}, {0, 0, 0, 0}};
     uint8_t reply[ANCP_REPLY];
     size_t length = 0;
 
@@ -138,11 +149,7 @@ int main(int argc, char **argv) {
         fprintf(stderr, "use: %s MESSAGE-FILE LIMIT-FILE [COUNT]\n", argv[0]);
         return 2;
     }
-    ancp_set_port(&tables, 0, "p1", 2);
-    ancp_set_channel(&tables, 0, &channel, 1000);
-    ancp_set_channel(&tables, 1, &grey, 1000);
-    ancp_set_entry(&tables, 0, ANCP_WHITE, &all, 4, 0);
-    ancp_set_entry(&tables, 1, ANCP_GREY_LIST, &grey, 32, 0);
+    if (filled()) return 1;
 
     /* the stored limit is the first number; the limit moved on by a block is stored before the card starts */
     limit_file = argv[2];

@@ -1,15 +1,27 @@
-/* The access node's card of ANCP multicast control (RFC 6320, RFC 7256), for a host in C or C++.
+/* The access node's card of ANCP multicast control (RFC 6320, RFC 7256), for a host in C11 or C++11 on.
 
-   The host keeps the card and the start's tables in its own memory, and a call updates the card there. Its one duty: it hands each call the card
-   as the last call left it, lends the same tables that it gave to ancp_card_start, and lets nobody else write either; card, tables, message and
-   reply buffer do not overlap. Everything else that is wrong gets its number.
+   The host keeps the card and the start's tables in its own memory, and a call updates the card there. Its one duty: it
+   hands each call the card as the last call left it, lends the same tables that it gave to ancp_card_start, and lets
+   nobody else write either. Everything else that is wrong gets a number: the card's below 100, this header's own from
+   100 on.
+
+   Threads: a card is nobody else's during a call, and nobody writes its tables then. Nothing is shared between cards:
+   separate cards may be called at the same time, also on the same tables. Readers of one card may run side by side, but
+   not beside a call on it.
 
    Across a restart no transaction number may come out twice as long as a server may still answer: see "a restart" below.
 
-   Link with libancp_card.a (`make -C host` makes it by `rt staticlib exports`), whose functions are proved; the inline functions here only hand the
-   arguments on. */
+   Link with libancp_card.a (`make` makes it by `rt staticlib exports`), whose functions of the card are proved; the inline
+   functions here look at pointers and hand the arguments on. Names as text are in ancp_text.h. */
 #ifndef ANCP_CARD_H
 #define ANCP_CARD_H
+
+#if !defined(__x86_64__) || !defined(__LP64__) || !defined(__linux__) || __BYTE_ORDER__ != __ORDER_LITTLE_ENDIAN__
+#error "ancp_card.h: the library is for x86-64 Linux (64-bit pointers, little-endian)"
+#endif
+#if defined(__cplusplus) ? __cplusplus < 201103L : __STDC_VERSION__ < 201112L
+#error "ancp_card.h: C11 or C++11 is needed"
+#endif
 
 #include <stdbool.h>
 #include <stddef.h>
@@ -18,10 +30,21 @@
 
 #ifdef __cplusplus
 extern "C" {
+#define ANCP_ASSERT(what, text) static_assert(what, text);
+#define ANCP_ALIGNOF(type) alignof(type)
+#define ANCP_ENUM(name) enum name : uint32_t
+#else
+#define ANCP_ASSERT(what, text) _Static_assert(what, text);
+#define ANCP_ALIGNOF(type) _Alignof(type)
+#define ANCP_ENUM(name) enum name
 #endif
 
+/* ---- the version: what the library says is ancp_card_version(), and a start refuses another one */
+#define ANCP_VERSION "0.1.0"
+#define ANCP_VERSION_NUMBER 100u
+
 /* ---- what comes back from a call */
-enum {
+typedef ANCP_ENUM(ancp_number) {
     ANCP_DONE = 0,                 /* done; reply length 0 if none is due */
     ANCP_ACTIVE = 1,               /* flow active already */
     ANCP_GREY = 2,                 /* grey: Admission Control message (145) written, ports and flows kept */
@@ -38,78 +61,154 @@ enum {
     ANCP_SMALL_BUFFER = 13,        /* reply buffer under ANCP_REPLY octets */
     ANCP_BAD_START = 14,           /* start tables, sizes or first transaction number bad */
     ANCP_UNUSABLE = 15,            /* message unusable */
-    ANCP_NOT_ASKED = 16            /* no open request answered by this */
-};
+    ANCP_NOT_ASKED = 16,           /* no open request answered by this */
+    /* the header's own: nothing is done, and nothing is written but a reply length of 0 */
+    ANCP_NULL = 100,               /* a pointer is NULL */
+    ANCP_MISALIGNED = 101,         /* a pointer is to no place where its type may lie */
+    ANCP_OVERLAP = 102,            /* what is written (card, reply, length) overlaps another argument */
+    ANCP_NOT_STARTED = 103,        /* the card was not started */
+    ANCP_OTHER_VERSION = 104,      /* header and library are of different versions */
+    ANCP_NO_ROW = 105,             /* row beyond the table */
+    ANCP_BAD_LENGTH = 106,         /* circuit id not of 1 to 63 octets, or prefix longer than an address */
+    ANCP_BAD_TEXT = 107            /* text is no address, or group and source are of two families */
+} ancp_number;
 
 /* ---- sizes */
-enum { ANCP_PORTS = 64, ANCP_CHANNELS = 256, ANCP_ENTRIES = 128, ANCP_REPLY = 4608, ANCP_MESSAGE = 4096 };
-enum { ANCP_IPV4 = 1, ANCP_IPV6 = 2 };
-enum { ANCP_WHITE = 1, ANCP_BLACK = 2, ANCP_GREY_LIST = 3 };
+enum {
+    ANCP_PORTS = 64, ANCP_CHANNELS = 256, ANCP_ENTRIES = 128, ANCP_REPLY = 4608, ANCP_MESSAGE = 4096,
+    ANCP_ID_ROW = 64, ANCP_CHANNEL_ROW = 11, ANCP_ENTRY_ROW = 12 /* octets, words, words of a table's row */
+};
+typedef ANCP_ENUM(ancp_family) { ANCP_IPV4 = 1, ANCP_IPV6 = 2 } ancp_family;
+typedef ANCP_ENUM(ancp_list) { ANCP_LIST_WHITE = 1, ANCP_LIST_BLACK = 2, ANCP_LIST_GREY = 3 } ancp_list;
 
-/* An address is four words, the highest first; IPv4 has the first, and the others zero. `sourced` is 1 where there is a source; else it is 0 and
-   the source's words are zero. */
-typedef struct { uint32_t family, sourced, group[4], source[4]; } ancp_flow;
+/* An address is four words, the highest first; IPv4 has the first, and the others zero. `sourced` is 1 where there is a
+   source; else it is 0 and the source's words are zero. ancp_text.h makes a flow of text. */
+typedef struct { ancp_family family; uint32_t sourced, group[4], source[4]; } ancp_flow;
 
 /* ---- the start's tables: fill them once, lend them with every call */
 typedef struct {
-    uint8_t ids[ANCP_PORTS * 64];            /* a row: the circuit id's length (1 to 63), then the id */
-    uint32_t channels[ANCP_CHANNELS * 11];   /* a row: family, sourced, rate (1 to 10,000,000 kbit/s), group (4), source (4) */
-    uint32_t entries[ANCP_ENTRIES * 12];     /* a row: family, list, group prefix length, source prefix length, group (4), source (4) */
+    uint8_t ids[ANCP_PORTS * ANCP_ID_ROW];                /* the circuit id's length (1 to 63), then the id */
+    uint32_t channels[ANCP_CHANNELS * ANCP_CHANNEL_ROW];  /* family, sourced, rate (1 to 10,000,000 kbit/s), group (4), source (4) */
+    uint32_t entries[ANCP_ENTRIES * ANCP_ENTRY_ROW];      /* family, list, group prefix length, source prefix length, group (4), source (4) */
 } ancp_tables;
 
-static inline void ancp_set_port(ancp_tables *t, size_t p, const void *id, uint8_t length) {
-    t->ids[p * 64] = length;
-    memcpy(t->ids + p * 64 + 1, id, length < 64 ? length : 63);
-}
-
-static inline void ancp_set_channel(ancp_tables *t, size_t k, const ancp_flow *f, uint32_t rate) {
-    uint32_t *r = t->channels + k * 11;
-    r[0] = f->family;
-    r[1] = f->sourced;
-    r[2] = rate;
-    memcpy(r + 3, f->group, 16);
-    memcpy(r + 7, f->source, 16);
-}
-
-/* prefix gives family, group and source; the lengths are in bits */
-static inline void ancp_set_entry(ancp_tables *t, size_t i, uint32_t list, const ancp_flow *prefix, uint32_t group_bits, uint32_t source_bits) {
-    uint32_t *e = t->entries + i * 12;
-    e[0] = prefix->family;
-    e[1] = list;
-    e[2] = group_bits;
-    e[3] = source_bits;
-    memcpy(e + 4, prefix->group, 16);
-    memcpy(e + 8, prefix->source, 16);
-}
-
-/* ---- the card: the host keeps it, and reads and writes nothing of it but through the functions below */
-typedef struct { bool up, asking; uint32_t delegation, required, preferred, transaction; } ancp_port;
+/* ---- the card: the host keeps it, and reads and writes nothing of it but through the functions below. It holds no
+   pointer: a copy of it is a card. What is `unused` is zero: cards that are equal are equal octet by octet. */
+typedef struct { bool up, asking; uint16_t unused; uint32_t delegation, required, preferred, transaction; } ancp_port;
 typedef struct { uint8_t owner[512], channel[512]; bool charged[512]; uint8_t accounting[512]; } ancp_pool;
 typedef struct { uint32_t number; } ancp_counter;
-typedef struct { size_t port_count, channel_count, entry_count; ancp_counter counter; bool white_cac, add_cac; } ancp_head;
+typedef struct {
+    size_t port_count, channel_count, entry_count;
+    ancp_counter counter;
+    bool white_cac, add_cac;
+    uint16_t unused;
+} ancp_head;
 typedef struct { ancp_port ports[ANCP_PORTS]; ancp_pool pool; ancp_head head; } ancp_core;
 
-/* arrays that are lent beside the core stand here, after it */
-typedef struct { ancp_core core; } ancp_card;
+/* `started` tells a card from other memory: a start that is taken writes ANCP_STARTED. Arrays that are lent beside the
+   core stand after it. */
+typedef struct { ancp_core core; uint64_t started; } ancp_card;
+#define ANCP_STARTED (UINT64_C(0x414E435043415244) + ANCP_VERSION_NUMBER)
 
 /* the channels of a port's active flows in order: the first `count` of `rows` */
 typedef struct { size_t count; uint8_t rows[16]; } ancp_rows;
 
-/* ---- the proved functions */
-enum { ANCP_CALL_UP = 0, ANCP_CALL_DOWN = 1, ANCP_CALL_DELEGATION = 2, ANCP_CALL_JOIN = 3, ANCP_CALL_LEAVE = 4, ANCP_CALL_ASK = 5, ANCP_CALL_MESSAGE = 255 };
-
 /* a call with its arguments; `amount` is the delegation that is set, or what is required when the host asks */
-typedef struct { uint8_t which; size_t port; uint32_t amount, preferred; ancp_flow flow; } ancp_call;
-typedef struct { uint8_t number; size_t length; } ancp_answer;
-typedef struct { ancp_core core; uint8_t number; } ancp_started;
+typedef struct { uint8_t which, unused[7]; size_t port; uint32_t amount, preferred; ancp_flow flow; } ancp_call;
+typedef struct { uint8_t number, unused[7]; size_t length; } ancp_answer;
+typedef struct { ancp_core core; uint8_t number, unused[7]; } ancp_started;
 
-ancp_started ancp_card_started(const uint8_t *ids, size_t ports, const uint32_t *channels, size_t channel_count, const uint32_t *entries,
-                               size_t entry_count, bool white_cac, bool add_cac, uint32_t first);
+/* ---- the layout: each struct with size and alignment, each field with its place and size. The assertions hold this
+   compiler to it (`#pragma pack` before this line is an error), host/layout.c the proved code. */
+#define ANCP_LAYOUT(STRUCT, FIELD) \
+    STRUCT(ancp_flow, 40, 4) FIELD(ancp_flow, family, 0, 4) FIELD(ancp_flow, sourced, 4, 4) \
+    FIELD(ancp_flow, group, 8, 16) FIELD(ancp_flow, source, 24, 16) \
+    STRUCT(ancp_tables, 21504, 4) FIELD(ancp_tables, ids, 0, 4096) FIELD(ancp_tables, channels, 4096, 11264) \
+    FIELD(ancp_tables, entries, 15360, 6144) \
+    STRUCT(ancp_port, 20, 4) FIELD(ancp_port, up, 0, 1) FIELD(ancp_port, asking, 1, 1) FIELD(ancp_port, unused, 2, 2) \
+    FIELD(ancp_port, delegation, 4, 4) FIELD(ancp_port, required, 8, 4) FIELD(ancp_port, preferred, 12, 4) \
+    FIELD(ancp_port, transaction, 16, 4) \
+    STRUCT(ancp_pool, 2048, 1) FIELD(ancp_pool, owner, 0, 512) FIELD(ancp_pool, channel, 512, 512) \
+    FIELD(ancp_pool, charged, 1024, 512) FIELD(ancp_pool, accounting, 1536, 512) \
+    STRUCT(ancp_counter, 4, 4) FIELD(ancp_counter, number, 0, 4) \
+    STRUCT(ancp_head, 32, 8) FIELD(ancp_head, port_count, 0, 8) FIELD(ancp_head, channel_count, 8, 8) \
+    FIELD(ancp_head, entry_count, 16, 8) FIELD(ancp_head, counter, 24, 4) FIELD(ancp_head, white_cac, 28, 1) \
+    FIELD(ancp_head, add_cac, 29, 1) FIELD(ancp_head, unused, 30, 2) \
+    STRUCT(ancp_core, 3360, 8) FIELD(ancp_core, ports, 0, 1280) FIELD(ancp_core, pool, 1280, 2048) \
+    FIELD(ancp_core, head, 3328, 32) \
+    STRUCT(ancp_card, 3368, 8) FIELD(ancp_card, core, 0, 3360) FIELD(ancp_card, started, 3360, 8) \
+    STRUCT(ancp_rows, 24, 8) FIELD(ancp_rows, count, 0, 8) FIELD(ancp_rows, rows, 8, 16) \
+    STRUCT(ancp_call, 64, 8) FIELD(ancp_call, which, 0, 1) FIELD(ancp_call, unused, 1, 7) FIELD(ancp_call, port, 8, 8) \
+    FIELD(ancp_call, amount, 16, 4) FIELD(ancp_call, preferred, 20, 4) FIELD(ancp_call, flow, 24, 40) \
+    STRUCT(ancp_answer, 16, 8) FIELD(ancp_answer, number, 0, 1) FIELD(ancp_answer, unused, 1, 7) \
+    FIELD(ancp_answer, length, 8, 8) \
+    STRUCT(ancp_started, 3368, 8) FIELD(ancp_started, core, 0, 3360) FIELD(ancp_started, number, 3360, 1) \
+    FIELD(ancp_started, unused, 3361, 7)
 
-/* Any call: *core and the start of `reply` are written, nothing else; *call lies outside both. Nothing of the core is copied but one port's
-   record and its head (counts, counter, switches). */
-ancp_answer ancp_card_call(ancp_core *core, const ancp_call *call, const uint8_t *ids, const uint32_t *channels, const uint32_t *entries,
-                           const uint8_t *octets, size_t n, uint8_t *reply, size_t space);
+#define ANCP_STRUCT_IS(type, size, align) \
+    ANCP_ASSERT(sizeof(type) == (size) && ANCP_ALIGNOF(type) == (align), #type " does not lie as in the library (#pragma pack?)")
+#define ANCP_FIELD_IS(type, field, at, size) \
+    ANCP_ASSERT(offsetof(type, field) == (at) && sizeof(((type *)0)->field) == (size), #type "." #field " does not lie as in the library")
+ANCP_LAYOUT(ANCP_STRUCT_IS, ANCP_FIELD_IS)
+
+/* ---- the tables' rows. Number 0, or the row is kept; what else may be wrong in a row a start tells (ANCP_BAD_START). */
+static inline ancp_number ancp_set_port(ancp_tables *t, size_t p, const void *id, size_t length) {
+    uint8_t row[ANCP_ID_ROW] = {0};
+    if (!t || !id) return ANCP_NULL;
+    if (p >= ANCP_PORTS) return ANCP_NO_ROW;
+    if (length < 1 || length >= ANCP_ID_ROW) return ANCP_BAD_LENGTH;
+    row[0] = (uint8_t)length;
+    memcpy(row + 1, id, length);
+    memcpy(t->ids + p * ANCP_ID_ROW, row, sizeof row);
+    return ANCP_DONE;
+}
+
+static inline ancp_number ancp_set_channel(ancp_tables *t, size_t k, const ancp_flow *f, uint32_t rate) {
+    uint32_t row[ANCP_CHANNEL_ROW];
+    if (!t || !f) return ANCP_NULL;
+    if (k >= ANCP_CHANNELS) return ANCP_NO_ROW;
+    row[0] = f->family;
+    row[1] = f->sourced;
+    row[2] = rate;
+    memcpy(row + 3, f->group, sizeof f->group);
+    memcpy(row + 7, f->source, sizeof f->source);
+    memcpy(t->channels + k * ANCP_CHANNEL_ROW, row, sizeof row);
+    return ANCP_DONE;
+}
+
+/* prefix gives family, group and source; the lengths are in bits */
+static inline ancp_number ancp_set_entry(ancp_tables *t, size_t i, ancp_list list, const ancp_flow *prefix,
+                                         uint32_t group_bits, uint32_t source_bits) {
+    uint32_t row[ANCP_ENTRY_ROW], bits;
+    if (!t || !prefix) return ANCP_NULL;
+    if (i >= ANCP_ENTRIES) return ANCP_NO_ROW;
+    bits = prefix->family == ANCP_IPV4 ? 32 : 128;
+    if (group_bits > bits || source_bits > bits) return ANCP_BAD_LENGTH;
+    row[0] = prefix->family;
+    row[1] = list;
+    row[2] = group_bits;
+    row[3] = source_bits;
+    memcpy(row + 4, prefix->group, sizeof prefix->group);
+    memcpy(row + 8, prefix->source, sizeof prefix->source);
+    memcpy(t->entries + i * ANCP_ENTRY_ROW, row, sizeof row);
+    return ANCP_DONE;
+}
+
+/* ---- the proved functions: they trust their pointers; a host calls the functions further down */
+enum {
+    ANCP_CALL_UP = 0, ANCP_CALL_DOWN = 1, ANCP_CALL_DELEGATION = 2, ANCP_CALL_JOIN = 3, ANCP_CALL_LEAVE = 4,
+    ANCP_CALL_ASK = 5, ANCP_CALL_MESSAGE = 255
+};
+
+uint32_t ancp_card_version(void);
+
+ancp_started ancp_card_started(const uint8_t *ids, size_t ports, const uint32_t *channels, size_t channel_count,
+                               const uint32_t *entries, size_t entry_count, bool white_cac, bool add_cac, uint32_t first);
+
+/* Any call: *core and the start of `reply` are written, nothing else; *call lies outside both. Nothing of the core is
+   copied but one port's record and its head (counts, counter, switches). */
+ancp_answer ancp_card_call(ancp_core *core, const ancp_call *call, const uint8_t *ids, const uint32_t *channels,
+                           const uint32_t *entries, const uint8_t *octets, size_t n, uint8_t *reply, size_t space);
 
 /* the readers take the core by value */
 bool ancp_card_up_in(ancp_core core, size_t p);
@@ -121,9 +220,9 @@ size_t ancp_card_extras_in(ancp_core core);
 uint32_t ancp_card_next_in(ancp_core core);
 
 /* ---- a restart
-   An old grant must not answer a new question: a number that may have been sent must not be sent again, also not by the card
-   of the next start, as long as a server may still answer. So what is stored is stored BEFORE a message is sent. A host that
-   cannot write its flash at each grey join keeps a limit there: no number from the limit on has been sent.
+   An old grant must not answer a new question: a number that may have been sent must not be sent again, also not by the
+   card of the next start, as long as a server may still answer. So what is stored is stored BEFORE a message is sent. A
+   host that cannot write its flash at each grey join keeps a limit there: no number from the limit on has been sent.
    - At start: take the stored limit as `first`, and store ancp_number_after(limit, BLOCK), the new limit, before
      ancp_card_start. On a new card the first number is 1.
    - Before each join and each ask (they alone take a number, one each), when few are left, and always when
@@ -134,90 +233,175 @@ uint32_t ancp_card_next_in(ancp_core core);
    16,777,215). */
 uint32_t ancp_number_after(uint32_t number, uint32_t by);
 
-/* How many numbers from `number` on, around the circle, come before `limit`: 0 where they are equal, or where one of them is
-   no transaction number. */
+/* How many numbers from `number` on, around the circle, come before `limit`: 0 where they are equal, or where one of them
+   is no transaction number. */
 uint32_t ancp_numbers_left(uint32_t number, uint32_t limit);
 
-/* ---- for the host. Each call updates *card and returns its number; `length` gets how many octets of reply are written, and beyond them the
-   buffer is kept. Numbers 1 and 3 to 16 keep card and buffer. */
-static inline uint8_t ancp_calls(ancp_card *card, const ancp_tables *t, const ancp_call *call, const uint8_t *octets, size_t n, uint8_t *reply, size_t space,
-                                 size_t *length) {
-    ancp_answer a = ancp_card_call(&card->core, call, t->ids, t->channels, t->entries, octets, n, reply, space);
-    if (length) *length = a.length;
-    return a.number;
+/* ---- pointers */
+
+/* n octets from a and m octets from b have one in common; neither is empty */
+static inline bool ancp_overlap(const void *a, size_t n, const void *b, size_t m) {
+    uintptr_t x = (uintptr_t)a, y = (uintptr_t)b;
+    return x < y ? y - x < n : x - y < m;
 }
 
-/* a call without a message, and one without a reply either */
-static inline uint8_t ancp_replies(ancp_card *card, const ancp_tables *t, ancp_call call, uint8_t *reply, size_t space, size_t *length) {
+/* number 0, or what is wrong with the pointers to a card and to its tables */
+static inline ancp_number ancp_placed(const ancp_card *card, const ancp_tables *t) {
+    if (!card || !t) return ANCP_NULL;
+    if ((uintptr_t)card % ANCP_ALIGNOF(ancp_card) || (uintptr_t)t % ANCP_ALIGNOF(ancp_tables)) return ANCP_MISALIGNED;
+    if (ancp_overlap(card, sizeof *card, t, sizeof *t)) return ANCP_OVERLAP;
+    return ANCP_DONE;
+}
+
+/* `length` may be written, and is nothing else's */
+static inline ancp_number ancp_length_placed(const ancp_card *card, const ancp_tables *t, const uint8_t *octets, size_t n,
+                                             const uint8_t *reply, size_t space, const size_t *length) {
+    if ((uintptr_t)length % ANCP_ALIGNOF(size_t)) return ANCP_MISALIGNED;
+    if (ancp_overlap(length, sizeof *length, card, sizeof *card) || ancp_overlap(length, sizeof *length, t, sizeof *t) ||
+        (n && ancp_overlap(length, sizeof *length, octets, n)) || (space && ancp_overlap(length, sizeof *length, reply, space)))
+        return ANCP_OVERLAP;
+    return ANCP_DONE;
+}
+
+/* number 0, or what is wrong with a call's pointers; a message or a buffer of no octets may be NULL */
+static inline ancp_number ancp_buffers_placed(const ancp_card *card, const ancp_tables *t, const uint8_t *octets, size_t n,
+                                              const uint8_t *reply, size_t space) {
+    ancp_number placed = ancp_placed(card, t);
+    if (placed != ANCP_DONE) return placed;
+    if ((n && !octets) || (space && !reply)) return ANCP_NULL;
+    if (n && ancp_overlap(card, sizeof *card, octets, n)) return ANCP_OVERLAP;
+    if (space && (ancp_overlap(card, sizeof *card, reply, space) || ancp_overlap(t, sizeof *t, reply, space))) return ANCP_OVERLAP;
+    if (n && space && ancp_overlap(octets, n, reply, space)) return ANCP_OVERLAP;
+    return card->started == ANCP_STARTED ? ANCP_DONE : ANCP_NOT_STARTED;
+}
+
+/* ---- for the host. Each call updates *card and returns its number; `length`, if it is not NULL, gets how many octets of
+   reply are written, and beyond them the buffer is kept. Numbers 1, 3 to 16 and those from 100 on keep card and buffer. */
+static inline ancp_number ancp_calls(ancp_card *card, const ancp_tables *t, const ancp_call *call, const uint8_t *octets,
+                                     size_t n, uint8_t *reply, size_t space, size_t *length) {
     uint8_t none = 0;
-    return ancp_calls(card, t, &call, &none, 0, reply, space, length);
+    ancp_answer answer;
+    ancp_number placed;
+    if (length) {
+        placed = ancp_length_placed(card, t, octets, n, reply, space, length);
+        if (placed != ANCP_DONE) return placed;
+        *length = 0;
+    }
+    placed = ancp_buffers_placed(card, t, octets, n, reply, space);
+    if (placed != ANCP_DONE) return placed;
+    if (!call) return ANCP_NULL;
+    answer = ancp_card_call(&card->core, call, t->ids, t->channels, t->entries, n ? octets : &none, n, space ? reply : &none, space);
+    if (length) *length = answer.length;
+    return (ancp_number)answer.number;
 }
-static inline uint8_t ancp_silent(ancp_card *card, const ancp_tables *t, ancp_call call) {
-    uint8_t none = 0;
-    return ancp_replies(card, t, call, &none, 0, NULL);
+
+static inline void ancp_call_of(ancp_call *call, uint8_t which, size_t p, uint32_t amount, uint32_t preferred) {
+    memset(call, 0, sizeof *call);
+    call->which = which;
+    call->port = p;
+    call->amount = amount;
+    call->preferred = preferred;
 }
-static inline ancp_call ancp_call_of(uint8_t which, size_t p, uint32_t amount, uint32_t preferred) {
-    ancp_call call = {which, p, amount, preferred, {0, 0, {0, 0, 0, 0}, {0, 0, 0, 0}}};
-    return call;
+
+/* a call about a port alone, and one about a flow of it */
+static inline ancp_number ancp_call_on_port(ancp_card *card, const ancp_tables *t, uint8_t which, size_t p, uint32_t amount) {
+    ancp_call call;
+    ancp_call_of(&call, which, p, amount, 0);
+    return ancp_calls(card, t, &call, NULL, 0, NULL, 0, NULL);
 }
-static inline ancp_call ancp_call_with(uint8_t which, size_t p, const ancp_flow *f) {
-    ancp_call call = {which, p, 0, 0, *f};
-    return call;
+static inline ancp_number ancp_call_on_flow(ancp_card *card, const ancp_tables *t, uint8_t which, size_t p, const ancp_flow *f,
+                                            uint8_t *reply, size_t space, size_t *length) {
+    ancp_call call;
+    ancp_call_of(&call, which, p, 0, 0);
+    if (f) memcpy(&call.flow, f, sizeof call.flow);
+    return ancp_calls(card, t, f ? &call : NULL, NULL, 0, reply, space, length);
 }
 
 /* Takes the tables, or answers ANCP_BAD_START and leaves *card as it was; what *card held before is not read. */
-static inline uint8_t ancp_card_start(ancp_card *card, const ancp_tables *t, size_t ports, size_t channels, size_t entries, bool white_cac,
-                                      bool add_cac, uint32_t first) {
-    ancp_started s = ancp_card_started(t->ids, ports, t->channels, channels, t->entries, entries, white_cac, add_cac, first);
-    if (s.number == ANCP_DONE) card->core = s.core;
-    return s.number;
+static inline ancp_number ancp_card_start(ancp_card *card, const ancp_tables *t, size_t ports, size_t channels, size_t entries,
+                                          bool white_cac, bool add_cac, uint32_t first) {
+    ancp_started s;
+    ancp_number placed = ancp_placed(card, t);
+    if (placed != ANCP_DONE) return placed;
+    if (ancp_card_version() != ANCP_VERSION_NUMBER) return ANCP_OTHER_VERSION;
+    s = ancp_card_started(t->ids, ports, t->channels, channels, t->entries, entries, white_cac, add_cac, first);
+    if (s.number != ANCP_DONE) return (ancp_number)s.number;
+    card->core = s.core;
+    for (size_t p = 0; p < ANCP_PORTS; p++) card->core.ports[p].unused = 0;
+    card->core.head.unused = 0;
+    card->started = ANCP_STARTED;
+    return ANCP_DONE;
 }
 
 /* The port is up; its flows and an open request stay if it was up already. */
-static inline uint8_t ancp_card_port_up(ancp_card *card, const ancp_tables *t, size_t p) {
-    return ancp_silent(card, t, ancp_call_of(ANCP_CALL_UP, p, 0, 0));
+static inline ancp_number ancp_card_port_up(ancp_card *card, const ancp_tables *t, size_t p) {
+    return ancp_call_on_port(card, t, ANCP_CALL_UP, p, 0);
 }
 
 /* The port is down: its flows end and its request is closed; its delegation stays. */
-static inline uint8_t ancp_card_port_down(ancp_card *card, const ancp_tables *t, size_t p) {
-    return ancp_silent(card, t, ancp_call_of(ANCP_CALL_DOWN, p, 0, 0));
+static inline ancp_number ancp_card_port_down(ancp_card *card, const ancp_tables *t, size_t p) {
+    return ancp_call_on_port(card, t, ANCP_CALL_DOWN, p, 0);
 }
 
 /* The port's delegation, not below what is committed; an open request is closed. */
-static inline uint8_t ancp_card_set_delegation(ancp_card *card, const ancp_tables *t, size_t p, uint32_t amount) {
-    return ancp_silent(card, t, ancp_call_of(ANCP_CALL_DELEGATION, p, amount, 0));
+static inline ancp_number ancp_card_set_delegation(ancp_card *card, const ancp_tables *t, size_t p, uint32_t amount) {
+    return ancp_call_on_port(card, t, ANCP_CALL_DELEGATION, p, amount);
 }
 
-/* A white flow begins if there is room and, under White-List-CAC, its rate fits; for a grey one (ANCP_GREY) a message to the server is written. */
-static inline uint8_t ancp_card_join(ancp_card *card, const ancp_tables *t, size_t p, const ancp_flow *f, uint8_t *reply, size_t space, size_t *length) {
-    return ancp_replies(card, t, ancp_call_with(ANCP_CALL_JOIN, p, f), reply, space, length);
+/* A white flow begins if there is room and, under White-List-CAC, its rate fits; for a grey one (ANCP_GREY) a message to
+   the server is written. */
+static inline ancp_number ancp_card_join(ancp_card *card, const ancp_tables *t, size_t p, const ancp_flow *f, uint8_t *reply,
+                                         size_t space, size_t *length) {
+    return ancp_call_on_flow(card, t, ANCP_CALL_JOIN, p, f, reply, space, length);
 }
 
 /* The flow ends, whoever began it. */
-static inline uint8_t ancp_card_leave(ancp_card *card, const ancp_tables *t, size_t p, const ancp_flow *f) {
-    return ancp_silent(card, t, ancp_call_with(ANCP_CALL_LEAVE, p, f));
+static inline ancp_number ancp_card_leave(ancp_card *card, const ancp_tables *t, size_t p, const ancp_flow *f) {
+    return ancp_call_on_flow(card, t, ANCP_CALL_LEAVE, p, f, NULL, 0, NULL);
 }
 
 /* Writes a request for bandwidth (146) to the server, which is then open. */
-static inline uint8_t ancp_card_ask(ancp_card *card, const ancp_tables *t, size_t p, uint32_t required, uint32_t preferred, uint8_t *reply, size_t space,
-                                    size_t *length) {
-    return ancp_replies(card, t, ancp_call_of(ANCP_CALL_ASK, p, required, preferred), reply, space, length);
+static inline ancp_number ancp_card_ask(ancp_card *card, const ancp_tables *t, size_t p, uint32_t required, uint32_t preferred,
+                                        uint8_t *reply, size_t space, size_t *length) {
+    ancp_call call;
+    ancp_call_of(&call, ANCP_CALL_ASK, p, required, preferred);
+    return ancp_calls(card, t, &call, NULL, 0, reply, space, length);
 }
 
 /* A message from the server is carried out, and its answer, if one is due, is written. */
-static inline uint8_t ancp_card_message(ancp_card *card, const ancp_tables *t, const uint8_t *octets, size_t n, uint8_t *reply, size_t space, size_t *length) {
-    static const ancp_call message = {ANCP_CALL_MESSAGE, 0, 0, 0, {0, 0, {0, 0, 0, 0}, {0, 0, 0, 0}}};
-    return ancp_calls(card, t, &message, octets, n, reply, space, length);
+static inline ancp_number ancp_card_message(ancp_card *card, const ancp_tables *t, const uint8_t *octets, size_t n,
+                                            uint8_t *reply, size_t space, size_t *length) {
+    ancp_call call;
+    ancp_call_of(&call, ANCP_CALL_MESSAGE, 0, 0, 0);
+    return ancp_calls(card, t, &call, octets, n, reply, space, length);
 }
 
-/* What a host may read. Of a number that is no port's: down, 0, no flows. */
-static inline bool ancp_card_is_up(const ancp_card *card, size_t p) { return ancp_card_up_in(card->core, p); }
-static inline uint32_t ancp_card_delegation(const ancp_card *card, size_t p) { return ancp_card_delegation_in(card->core, p); }
-static inline uint64_t ancp_card_committed(const ancp_card *card, const ancp_tables *t, size_t p) { return ancp_card_committed_in(card->core, t->channels, p); }
-static inline ancp_rows ancp_card_flows(const ancp_card *card, const ancp_tables *t, size_t p) { return ancp_card_flows_in(card->core, t->channels, p); }
-static inline bool ancp_card_is_active(const ancp_card *card, const ancp_tables *t, size_t p, const ancp_flow *f) { return ancp_card_active_in(card->core, t->channels, p, *f); }
-static inline size_t ancp_card_extras(const ancp_card *card) { return ancp_card_extras_in(card->core); }
-static inline uint32_t ancp_card_next_transaction(const ancp_card *card) { return ancp_card_next_in(card->core); }
+/* ---- what a host may read. Of a number that is no port's, and of what is no started card: down, 0, no flows. */
+static inline bool ancp_card_is_started(const ancp_card *card) {
+    return card && (uintptr_t)card % ANCP_ALIGNOF(ancp_card) == 0 && card->started == ANCP_STARTED;
+}
+static inline bool ancp_card_is_up(const ancp_card *card, size_t p) {
+    return ancp_card_is_started(card) && ancp_card_up_in(card->core, p);
+}
+static inline uint32_t ancp_card_delegation(const ancp_card *card, size_t p) {
+    return ancp_card_is_started(card) ? ancp_card_delegation_in(card->core, p) : 0;
+}
+static inline uint64_t ancp_card_committed(const ancp_card *card, const ancp_tables *t, size_t p) {
+    return ancp_card_is_started(card) && t ? ancp_card_committed_in(card->core, t->channels, p) : 0;
+}
+static inline ancp_rows ancp_card_flows(const ancp_card *card, const ancp_tables *t, size_t p) {
+    ancp_rows none = {0, {0}};
+    return ancp_card_is_started(card) && t ? ancp_card_flows_in(card->core, t->channels, p) : none;
+}
+static inline bool ancp_card_is_active(const ancp_card *card, const ancp_tables *t, size_t p, const ancp_flow *f) {
+    return ancp_card_is_started(card) && t && f && ancp_card_active_in(card->core, t->channels, p, *f);
+}
+static inline size_t ancp_card_extras(const ancp_card *card) {
+    return ancp_card_is_started(card) ? ancp_card_extras_in(card->core) : 0;
+}
+static inline uint32_t ancp_card_next_transaction(const ancp_card *card) {
+    return ancp_card_is_started(card) ? ancp_card_next_in(card->core) : 0;
+}
 
 #ifdef __cplusplus
 }

@@ -86,6 +86,7 @@ impl Pair {
 
     fn compare_node(&self) -> Result<(), String> {
         same("extras", self.card.extras(), self.proved.extras())?;
+        same("unused octets zero", true, self.proved.is_clean())?;
         same("next transaction", self.card.next_transaction(), self.proved.next_transaction())
     }
 

@@ -1,135 +1,78 @@
-//! The proved card, through its C functions (include/ancp_card.h).
+//! The proved card, as a host in C has it: through the functions of include/ancp_card.h (header.c).
 use crate::card::Request;
-use crate::host::{HostFlow, Start, MAX_CHANNELS, MAX_ENTRIES, MAX_PORTS};
+use crate::host::{HostFlow, Start};
 use std::rc::Rc;
 
-#[repr(C)]
-#[derive(Clone, Copy, PartialEq)]
-struct RawPort {
-    up: bool,
-    asking: bool,
-    delegation: u32,
-    required: u32,
-    preferred: u32,
-    transaction: u32,
-}
+include!(concat!(env!("OUT_DIR"), "/sizes.rs"));
 
-#[repr(C)]
-#[derive(Clone, Copy, PartialEq)]
-struct RawPool {
-    owner: [u8; 512],
-    channel: [u8; 512],
-    charged: [bool; 512],
-    accounting: [u8; 512],
-}
+/// A card's memory. What lies where in it only the header knows.
+#[repr(C, align(8))]
+#[derive(Clone, Copy, PartialEq, Eq)]
+pub struct Record([u8; CARD_OCTETS]);
 
-#[repr(C)]
-#[derive(Clone, Copy, PartialEq)]
-struct RawCounter {
-    number: u32,
-}
+/// The memory of the start's tables.
+#[repr(C, align(8))]
+struct Tables([u8; TABLES_OCTETS]);
 
-/// What is neither a port's nor a record's.
-#[repr(C)]
-#[derive(Clone, Copy, PartialEq)]
-struct RawHead {
-    port_count: usize,
-    channel_count: usize,
-    entry_count: usize,
-    counter: RawCounter,
-    white_cac: bool,
-    add_cac: bool,
-}
-
-#[repr(C)]
-#[derive(Clone, Copy, PartialEq)]
-pub struct RawCore {
-    ports: [RawPort; MAX_PORTS],
-    pool: RawPool,
-    head: RawHead,
-}
-
-#[repr(C)]
-#[derive(Clone, Copy)]
-struct RawFlow {
-    family: u32,
-    sourced: u32,
-    group: [u32; 4],
-    source: [u32; 4],
-}
-
-#[repr(C)]
-#[derive(Clone, Copy)]
-struct RawRows {
-    count: usize,
-    rows: [u8; 16],
-}
-
-/// A call with its arguments.
-#[repr(C)]
-#[derive(Clone, Copy)]
-struct RawCall {
-    which: u8,
-    port: usize,
-    amount: u32,
-    preferred: u32,
-    flow: RawFlow,
-}
-
-#[repr(C)]
-#[derive(Clone, Copy)]
-struct RawAnswer {
-    number: u8,
-    length: usize,
-}
-
-#[repr(C)]
-#[derive(Clone, Copy)]
-struct RawStarted {
-    core: RawCore,
-    number: u8,
-}
-
-type Ids = *const u8;
-type Words = *const u32;
+/// A flow as ten words: family, sourced, group, source.
+type Words = [u32; 10];
 
 extern "C" {
-    fn ancp_card_started(
-        ids: Ids,
+    fn compare_set_port(t: *mut Tables, p: usize, length: u8, octets: *const u8);
+    fn compare_set_channel(t: *mut Tables, k: usize, flow: *const Words, rate: u32);
+    fn compare_set_entry(t: *mut Tables, i: usize, list: u32, flow: *const Words, group_bits: u32, source_bits: u32);
+    fn compare_start(
+        card: *mut Record,
+        t: *const Tables,
         ports: usize,
-        channels: Words,
-        channel_count: usize,
-        entries: Words,
-        entry_count: usize,
+        channels: usize,
+        entries: usize,
         white_cac: bool,
         add_cac: bool,
         first: u32,
-    ) -> RawStarted;
-    fn ancp_card_call(
-        core: *mut RawCore,
-        call: *const RawCall,
-        ids: Ids,
-        channels: Words,
-        entries: Words,
+    ) -> u32;
+    fn compare_port_up(card: *mut Record, t: *const Tables, p: usize) -> u32;
+    fn compare_port_down(card: *mut Record, t: *const Tables, p: usize) -> u32;
+    fn compare_set_delegation(card: *mut Record, t: *const Tables, p: usize, amount: u32) -> u32;
+    fn compare_join(
+        card: *mut Record,
+        t: *const Tables,
+        p: usize,
+        flow: *const Words,
+        reply: *mut u8,
+        space: usize,
+        length: *mut usize,
+    ) -> u32;
+    fn compare_leave(card: *mut Record, t: *const Tables, p: usize, flow: *const Words) -> u32;
+    fn compare_ask(
+        card: *mut Record,
+        t: *const Tables,
+        p: usize,
+        required: u32,
+        preferred: u32,
+        reply: *mut u8,
+        space: usize,
+        length: *mut usize,
+    ) -> u32;
+    fn compare_message(
+        card: *mut Record,
+        t: *const Tables,
         octets: *const u8,
         n: usize,
         reply: *mut u8,
         space: usize,
-    ) -> RawAnswer;
-    fn ancp_card_up_in(core: RawCore, p: usize) -> bool;
-    fn ancp_card_delegation_in(core: RawCore, p: usize) -> u32;
-    fn ancp_card_committed_in(core: RawCore, channels: Words, p: usize) -> u64;
-    fn ancp_card_flows_in(core: RawCore, channels: Words, p: usize) -> RawRows;
-    fn ancp_card_active_in(core: RawCore, channels: Words, p: usize, f: RawFlow) -> bool;
-    fn ancp_card_extras_in(core: RawCore) -> usize;
-    fn ancp_card_next_in(core: RawCore) -> u32;
-}
-
-/// The start's tables as the C functions take them.
-struct Tables {
-    ids: [u8; MAX_PORTS * 64],
-    channels: [u32; MAX_CHANNELS * 11],
-    entries: [u32; MAX_ENTRIES * 12],
+        length: *mut usize,
+    ) -> u32;
+    fn compare_is_up(card: *const Record, p: usize) -> bool;
+    fn compare_delegation(card: *const Record, p: usize) -> u32;
+    fn compare_committed(card: *const Record, t: *const Tables, p: usize) -> u64;
+    fn compare_flows(card: *const Record, t: *const Tables, p: usize, rows: *mut [u8; 16]) -> usize;
+    fn compare_is_active(card: *const Record, t: *const Tables, p: usize, flow: *const Words) -> bool;
+    fn compare_extras(card: *const Record) -> usize;
+    fn compare_next_transaction(card: *const Record) -> u32;
+    fn compare_is_clean(card: *const Record) -> bool;
+    fn compare_request(card: *const Record, p: usize, request: *mut [u32; 3]) -> bool;
+    fn compare_marks(card: *const Record, p: usize, row: u8, marks: *mut [u8; 2]) -> bool;
 }
 
 /// A number and a reply length.
@@ -142,175 +85,143 @@ pub struct ProvedAnswer {
 /// A card with its tables, which copies share.
 #[derive(Clone)]
 pub struct Proved {
-    core: RawCore,
+    card: Record,
     tables: Rc<Tables>,
-    /// How port 0 stands in the pool's owner map: 1 if 0 marks a free record there.
-    first_owner: u8,
 }
 
 impl Proved {
     /// The started card, or the number.
     pub fn start(s: &Start) -> Result<Proved, u8> {
         let tables = Rc::new(fill(s));
-        let started = unsafe {
-            ancp_card_started(
-                tables.ids.as_ptr(),
-                s.ports,
-                tables.channels.as_ptr(),
-                s.channel_count,
-                tables.entries.as_ptr(),
-                s.entry_count,
-                s.white_cac,
-                s.add_cac,
-                s.first,
-            )
-        };
-        match started.number {
-            0 => Ok(Proved { core: started.core, tables, first_owner: (started.core.pool.owner[0] == 0) as u8 }),
-            number => Err(number),
+        let mut card = Record([0xA5; CARD_OCTETS]);
+        let (ports, channels, entries) = (s.ports, s.channel_count, s.entry_count);
+        match unsafe { compare_start(&mut card, &*tables, ports, channels, entries, s.white_cac, s.add_cac, s.first) } {
+            0 => Ok(Proved { card, tables }),
+            number => Err(number as u8),
         }
     }
 
-    fn call(&mut self, call: RawCall, octets: &[u8], reply: &mut [u8]) -> ProvedAnswer {
-        let answer = unsafe {
-            ancp_card_call(
-                &mut self.core,
-                &call,
-                self.tables.ids.as_ptr(),
-                self.tables.channels.as_ptr(),
-                self.tables.entries.as_ptr(),
-                octets.as_ptr(),
-                octets.len(),
-                reply.as_mut_ptr(),
-                reply.len(),
-            )
-        };
-        ProvedAnswer { number: answer.number, length: answer.length }
-    }
-
     pub fn port_up(&mut self, p: usize) -> ProvedAnswer {
-        self.call(call_of(UP, p, 0, 0), &[], &mut [])
+        silent(unsafe { compare_port_up(&mut self.card, &*self.tables, p) })
     }
 
     pub fn port_down(&mut self, p: usize) -> ProvedAnswer {
-        self.call(call_of(DOWN, p, 0, 0), &[], &mut [])
+        silent(unsafe { compare_port_down(&mut self.card, &*self.tables, p) })
     }
 
     pub fn set_delegation(&mut self, p: usize, amount: u32) -> ProvedAnswer {
-        self.call(call_of(DELEGATION, p, amount, 0), &[], &mut [])
+        silent(unsafe { compare_set_delegation(&mut self.card, &*self.tables, p, amount) })
     }
 
     pub fn join(&mut self, p: usize, f: &HostFlow, reply: &mut [u8]) -> ProvedAnswer {
-        self.call(call_with(JOIN, p, f), &[], reply)
+        let (words, space, mut length) = (words(f), reply.len(), 0);
+        let number = unsafe { compare_join(&mut self.card, &*self.tables, p, &words, reply.as_mut_ptr(), space, &mut length) };
+        ProvedAnswer { number: number as u8, length }
     }
 
     pub fn leave(&mut self, p: usize, f: &HostFlow) -> ProvedAnswer {
-        self.call(call_with(LEAVE, p, f), &[], &mut [])
+        silent(unsafe { compare_leave(&mut self.card, &*self.tables, p, &words(f)) })
     }
 
     pub fn ask(&mut self, p: usize, required: u32, preferred: u32, reply: &mut [u8]) -> ProvedAnswer {
-        self.call(call_of(ASK, p, required, preferred), &[], reply)
+        let (to, space, mut length) = (reply.as_mut_ptr(), reply.len(), 0);
+        let number = unsafe { compare_ask(&mut self.card, &*self.tables, p, required, preferred, to, space, &mut length) };
+        ProvedAnswer { number: number as u8, length }
     }
 
     pub fn message(&mut self, octets: &[u8], reply: &mut [u8]) -> ProvedAnswer {
-        self.call(call_of(MESSAGE, 0, 0, 0), octets, reply)
-    }
-
-    fn channels(&self) -> Words {
-        self.tables.channels.as_ptr()
+        let (from, n, to, space, mut length) = (octets.as_ptr(), octets.len(), reply.as_mut_ptr(), reply.len(), 0);
+        let number = unsafe { compare_message(&mut self.card, &*self.tables, from, n, to, space, &mut length) };
+        ProvedAnswer { number: number as u8, length }
     }
 }
 
 /// The readers.
 impl Proved {
     pub fn is_up(&self, p: usize) -> bool {
-        unsafe { ancp_card_up_in(self.core, p) }
+        unsafe { compare_is_up(&self.card, p) }
     }
 
     pub fn delegation(&self, p: usize) -> u32 {
-        unsafe { ancp_card_delegation_in(self.core, p) }
+        unsafe { compare_delegation(&self.card, p) }
     }
 
     pub fn committed(&self, p: usize) -> u64 {
-        unsafe { ancp_card_committed_in(self.core, self.channels(), p) }
+        unsafe { compare_committed(&self.card, &*self.tables, p) }
     }
 
     /// The channel rows of the port's flows, in order; none if the count is above 16.
     pub fn flows(&self, p: usize) -> Option<Vec<u8>> {
-        let rows = unsafe { ancp_card_flows_in(self.core, self.channels(), p) };
-        rows.rows.get(..rows.count).map(<[u8]>::to_vec)
+        let mut rows = [0; 16];
+        let count = unsafe { compare_flows(&self.card, &*self.tables, p, &mut rows) };
+        rows.get(..count).map(<[u8]>::to_vec)
     }
 
     pub fn is_active(&self, p: usize, f: &HostFlow) -> bool {
-        unsafe { ancp_card_active_in(self.core, self.channels(), p, raw_flow(f)) }
+        unsafe { compare_is_active(&self.card, &*self.tables, p, &words(f)) }
     }
 
     pub fn extras(&self) -> usize {
-        unsafe { ancp_card_extras_in(self.core) }
+        unsafe { compare_extras(&self.card) }
     }
 
     pub fn next_transaction(&self) -> u32 {
-        unsafe { ancp_card_next_in(self.core) }
+        unsafe { compare_next_transaction(&self.card) }
     }
 
-    /// The whole record, to see that a refusal keeps it.
-    pub fn record(&self) -> RawCore {
-        self.core
+    /// The whole record, octet by octet, to see that a refusal keeps it.
+    pub fn record(&self) -> Record {
+        self.card
     }
 
-    /// No reader gives the open request or a flow's marks; they are read from the record itself.
+    /// What is unused of the record is zero.
+    pub fn is_clean(&self) -> bool {
+        unsafe { compare_is_clean(&self.card) }
+    }
+
+    /// The open request.
     pub fn request(&self, p: usize) -> Option<Request> {
-        let port = self.core.ports.get(p).filter(|port| port.asking)?;
-        Some(Request { transaction: port.transaction, required: port.required, preferred: port.preferred })
+        let mut figures = [0; 3];
+        let open = unsafe { compare_request(&self.card, p, &mut figures) };
+        let [required, preferred, transaction] = figures;
+        open.then_some(Request { transaction, required, preferred })
     }
 
     /// Accounting and charge of the port's flow on a channel row.
     pub fn marks(&self, p: usize, row: u8) -> Option<(u8, bool)> {
-        let pool = &self.core.pool;
-        let owner = p as u8 + self.first_owner;
-        let record = (0..512).find(|&i| pool.owner[i] == owner && pool.channel[i] == row)?;
-        Some((pool.accounting[record], pool.charged[record]))
+        let mut marks = [0; 2];
+        let found = unsafe { compare_marks(&self.card, p, row, &mut marks) };
+        found.then_some((marks[0], marks[1] != 0))
     }
 }
 
-/// Which call a `RawCall` is.
-const UP: u8 = 0;
-const DOWN: u8 = 1;
-const DELEGATION: u8 = 2;
-const JOIN: u8 = 3;
-const LEAVE: u8 = 4;
-const ASK: u8 = 5;
-const MESSAGE: u8 = 255;
-
-const NO_FLOW: RawFlow = RawFlow { family: 0, sourced: 0, group: [0; 4], source: [0; 4] };
-
-fn call_of(which: u8, port: usize, amount: u32, preferred: u32) -> RawCall {
-    RawCall { which, port, amount, preferred, flow: NO_FLOW }
+fn silent(number: u32) -> ProvedAnswer {
+    ProvedAnswer { number: number as u8, length: 0 }
 }
 
-fn call_with(which: u8, port: usize, f: &HostFlow) -> RawCall {
-    RawCall { which, port, amount: 0, preferred: 0, flow: raw_flow(f) }
+fn words(f: &HostFlow) -> Words {
+    words_of(f.family, f.sourced, &f.group, &f.source)
 }
 
-fn raw_flow(f: &HostFlow) -> RawFlow {
-    RawFlow { family: f.family, sourced: f.sourced, group: f.group, source: f.source }
+fn words_of(family: u32, sourced: u32, group: &[u32; 4], source: &[u32; 4]) -> Words {
+    let mut words = [0; 10];
+    words[..2].copy_from_slice(&[family, sourced]);
+    words[2..6].copy_from_slice(group);
+    words[6..].copy_from_slice(source);
+    words
 }
 
 fn fill(s: &Start) -> Tables {
-    let mut t = Tables { ids: [0; MAX_PORTS * 64], channels: [0; MAX_CHANNELS * 11], entries: [0; MAX_ENTRIES * 12] };
-    for (row, id) in t.ids.chunks_exact_mut(64).zip(&s.ids) {
-        row[0] = id.length;
-        row[1..].copy_from_slice(&id.octets);
+    let mut t = Tables([0; TABLES_OCTETS]);
+    for (row, id) in s.ids.iter().enumerate() {
+        unsafe { compare_set_port(&mut t, row, id.length, id.octets.as_ptr()) }
     }
-    for (row, c) in t.channels.chunks_exact_mut(11).zip(&s.channels) {
-        row[..3].copy_from_slice(&[c.flow.family, c.flow.sourced, c.rate]);
-        row[3..7].copy_from_slice(&c.flow.group);
-        row[7..].copy_from_slice(&c.flow.source);
+    for (row, c) in s.channels.iter().enumerate() {
+        unsafe { compare_set_channel(&mut t, row, &words(&c.flow), c.rate) }
     }
-    for (row, e) in t.entries.chunks_exact_mut(12).zip(&s.entries) {
-        row[..4].copy_from_slice(&[e.family, e.list, e.group_bits, e.source_bits]);
-        row[4..8].copy_from_slice(&e.group);
-        row[8..].copy_from_slice(&e.source);
+    for (row, e) in s.entries.iter().enumerate() {
+        let prefix = words_of(e.family, 0, &e.group, &e.source);
+        unsafe { compare_set_entry(&mut t, row, e.list, &prefix, e.group_bits, e.source_bits) }
     }
     t
 }

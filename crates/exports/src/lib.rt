@@ -163,3 +163,14 @@ pub extern "C" fn ancp_numbers_left(number: u32, limit: u32) -> u32
 {
     numbers::numbers_left(number, limit)
 }
+
+// ---- the version of this library, which the header compares with its own at a start: 100 for 0.1.0
+
+pub const VERSION: u32 = 100;
+
+#[no_mangle]
+pub extern "C" fn ancp_card_version() -> u32
+    ensures { λ r. ⌜ r ≡ 100 ⌝ }
+{
+    VERSION
+}
