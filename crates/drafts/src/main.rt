@@ -1,11 +1,7 @@
-// Plays a script of calls from standard input, such as the example messages of the sources (the file stdin), and writes what each call answers.
-// A line is a name, a verb of one letter and its octets in hexadecimal, with one space between them:
-//   n  start again: four ports p001, port10, port20, port11, all up, p001 with delegation 2000; 01 for MRepCtl-CAC on
-//   m  a message                     u, x  port up, port down: port
-//   j, l  join, leave: port, group, source (IPv4; without a source no octets)
-//   d  set delegation: port, amount  a  ask: port, required, preferred
-// Written is the name, the number and the reply's octets; for n nothing. A line that begins with '#' is passed over.
-// Of a line's octets the first 4,097 count. A script of 65,536 octets or more is not read whole, which is then said.
+// Plays a script of calls from standard input, such as the example messages of the sources (the file stdin), and writes
+// what each call answers. What is wrong in it is said on standard error and ends the run. A program has no exit status and
+// no usage text here: ./run-drafts has both, the script's format among it.
+mod script;
 mod start;
 mod text;
 
@@ -13,45 +9,51 @@ use calls::HostCall;
 use card::Core;
 use card::Returned;
 use flows::Flow;
+use script::Next;
 use start::Tables;
 
 fn main() {
     let t = start::filled();
     let mut c = start::ready(t, false);
-    let mut script = io::large_buffer();
-    let n = io::read_full(0, &mut script);
-    let mut at: usize = 0;
-    while at < n {
-        let e = text::until(&script[..n], at, b'\n');
-        c = line(c, t, &script[at..e]);
-        at = e + 1;
+    let mut number: u64 = 1;
+    while number < u64::MAX {
+        let mut s = [0u8; 8257];
+        let mut o = [0u8; 4097];
+        match script::next_call(&mut s, &mut o) {
+            Next::Stop => {
+                return;
+            }
+            Next::Pass => {}
+            Next::Wrong { at, why } => {
+                script::say_wrong(number, at, why);
+                return;
+            }
+            Next::Call { verb, at, n } => {
+                c = played(c, t, verb, text::first(&s, at), text::first(&o, n));
+            }
+        }
+        number += 1;
     }
-    said_if_long(n);
 }
 
-fn said_if_long(n: usize) {
-    if 65536 <= n {
-        io::write_all(1, b"the script is too long\n");
-    }
-}
-
-fn line(core: Core, t: Tables, s: &[u8]) -> Core {
-    let v = text::until(s, 0, b' ') + 1;
-    if s.len() <= v {
-        return core;
-    }
-    let verb = s[v];
-    if s[0] == b'#' {
-        return core;
-    }
-    let mut octets = [0u8; 4097];
-    let n = hex::octets_of(text::from(s, v + 2), &mut octets);
+fn played(core: Core, t: Tables, verb: u8, name: &[u8], o: &[u8]) -> Core {
     if verb == b'n' {
-        return start::ready(t, octets[0] == 1);
+        return start::ready(t, octets::read8(o, 0) == 1);
+    }
+    if verb == b's' {
+        return cramped(core, t, name, o);
     }
     let mut reply = [0u8; 4608];
-    let done = call(core, t, verb, &octets[..n], &mut reply);
-    tell(text::first(s, v), done, &reply);
+    let done = call(core, t, verb, o, &mut reply);
+    tell(name, done, &reply);
+    done.core
+}
+
+// A message with a reply buffer that is one octet too small.
+fn cramped(core: Core, t: Tables, name: &[u8], o: &[u8]) -> Core {
+    let mut reply = [0u8; 4607];
+    let done = call(core, t, b'm', o, &mut reply);
+    tell(name, done, &reply);
     done.core
 }
 
@@ -59,21 +61,7 @@ fn call(core: Core, t: Tables, verb: u8, o: &[u8], reply: &mut [u8]) -> Returned
     let ids = t.ids;
     let channels = t.channels;
     let entries = t.entries;
-    if !known(verb) {
-        return Returned {
-            core,
-            number: 0,
-            length: 0,
-        };
-    }
     calls::call(core, &ids, &channels, &entries, called(verb, o), o, reply)
-}
-
-fn known(verb: u8) -> bool {
-    match verb {
-        b'm' | b'j' | b'u' | b'x' | b'l' | b'd' | b'a' => true,
-        _ => false,
-    }
 }
 
 // The call of a verb; its arguments stand in the octets.
@@ -82,20 +70,20 @@ fn called(verb: u8, o: &[u8]) -> HostCall {
     let x = text::number(o, 1);
     let y = text::number(o, 5);
     match verb {
-        b'j' => calls::on_flow(calls::JOIN, p, flow(x, y)),
+        b'j' => calls::on_flow(calls::JOIN, p, flow(x, y, 5 < o.len())),
         b'u' => calls::on_port(calls::PORT_UP, p, 0, 0),
         b'x' => calls::on_port(calls::PORT_DOWN, p, 0, 0),
-        b'l' => calls::on_flow(calls::LEAVE, p, flow(x, y)),
+        b'l' => calls::on_flow(calls::LEAVE, p, flow(x, y, 5 < o.len())),
         b'd' => calls::on_port(calls::SET_DELEGATION, p, x, 0),
         b'a' => calls::on_port(calls::ASK, p, x, y),
         _ => calls::on_port(calls::MESSAGE, 0, 0, 0),
     }
 }
 
-fn flow(group: u32, source: u32) -> Flow {
+fn flow(group: u32, source: u32, sourced: bool) -> Flow {
     Flow {
         family: 1,
-        sourced: if source == 0 { 0 } else { 1 },
+        sourced: if sourced { 1 } else { 0 },
         group: [group, 0, 0, 0],
         source: [source, 0, 0, 0],
     }

@@ -1,15 +1,47 @@
-// Parts of a line of the script.
+// The lines of the script, and their parts.
 ghost use Prim.Native.Nat.{_≤_};
 ghost use lib.ListN.{length};
 
-// The place of the first octet x from place `at` on, or the end.
-pub fn until(s: &[u8], at: usize, x: u8) -> usize
-    requires { ⌜ at ≤ length (now s) ⌝ }
-    ensures { λ r. ⌜ (at ≤ r) × (r ≤ length (now (s .entry))) ⌝ }
+// n characters and a line end, n characters and the script's end, more characters than there is room for, or a read that
+// failed.
+pub enum Line {
+    Ended(usize),
+    Last(usize),
+    Long,
+    Failed,
+}
+
+// Reads one line, a character at a time: so a line is answered before the next one is there.
+pub fn read_line(buf: &mut [u8]) -> Line {
+    let mut n: usize = 0;
+    while n < buf.len() {
+        let mut one = [0u8; 1];
+        let got = libc::read(0, &mut one);
+        if got < 0 {
+            return Line::Failed;
+        }
+        if got == 0 {
+            return Line::Last(n);
+        }
+        if one[0] == b'\n' {
+            return Line::Ended(n);
+        }
+        buf[n] = one[0];
+        n += 1;
+    }
+    Line::Long
+}
+
+// How many characters at the start can stand in a name: '!' to '~'.
+pub fn name(s: &[u8]) -> usize
+    ensures { λ r. ⌜ r ≤ length (now (s .entry)) ⌝ }
 {
-    let mut i = at;
+    let mut i: usize = 0;
     while i < s.len() {
-        if s[i] == x {
+        if s[i] < b'!' {
+            return i;
+        }
+        if b'~' < s[i] {
             return i;
         }
         i += 1;

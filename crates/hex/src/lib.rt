@@ -1,49 +1,96 @@
 // Octets as hexadecimal text, read and written, for the programs.
-ghost use Prim.Native.Nat.{_≤_};
-ghost use Rattle.io.specs.Counts.{Counts};
+ghost use mathlib.Core.Path.{_≡_};
+ghost use Prim.Native.Nat.{_≤_, _<_, _+_, _*_};
+ghost use lib.ListN.{length};
+ghost use Rattle.octets.specs.Writing.{over};
+ghost use Rattle.hex.specs.Hex.{valueOf, digitsIn, octetsIn, readingOf, leftBy};
 
-// The octets that a text of pairs of digits stands for, as many as there is room for.
-pub fn octets_of(s: &[u8], buf: &mut [u8]) -> usize
-    ensures { λ r. ⌜ Counts r (now (buf .exit)) ⌝ }
+// What reading a text comes to: how many octets it stands for, or why not, with the place in the text.
+pub enum Reading {
+    Octets(usize),
+    NoDigit(usize),
+    OddDigit(usize),
+    NoRoom(usize),
+}
+
+// Reads pairs of digits of either case. The octets are written over the buffer's start; a text that is refused writes
+// nothing.
+pub fn read(s: &[u8], buf: &mut [u8]) -> Reading
+    ensures { λ r. ⌜ r ≡ readingOf (now (s .entry)) (length (now (buf .entry))) ⌝ }
+    ensures { λ r. ⌜ now (buf .exit) ≡ leftBy r (now (s .entry)) (now (buf .entry)) ⌝ }
 {
-    let mut n: usize = 0;
-    let mut i: usize = 1;
+    let d = digits(s);
+    if d < s.len() {
+        return Reading::NoDigit(d);
+    }
+    if s.len() % 2 == 1 {
+        return Reading::OddDigit(s.len() - 1);
+    }
+    let n = s.len() / 2;
+    if buf.len() < n {
+        return Reading::NoRoom(buf.len() * 2);
+    }
+    put_pairs(s, n, buf);
+    Reading::Octets(n)
+}
+
+// How many digits stand before the first character that is none.
+fn digits(s: &[u8]) -> usize
+    ensures { λ r. ⌜ r ≡ digitsIn (now (s .entry)) ⌝ }
+{
+    let mut i: usize = 0;
     while i < s.len() {
-        if buf.len() <= n {
-            return n;
+        if 16 <= value(s[i]) {
+            return i;
         }
-        buf[n] = pair(s[i - 1], s[i]);
-        n += 1;
-        if s.len() - i <= 2 {
-            return n;
-        }
-        i += 2;
+        i += 1;
     }
-    n
+    i
 }
 
-fn pair(a: u8, b: u8) -> u8 {
-    (value(a) as u16 * 16 + value(b) as u16) as u8
-}
-
-fn value(digit: u8) -> u8
-    ensures { λ r. ⌜ r ≤ 15 ⌝ }
+// The octets of a text of n pairs of digits.
+fn put_pairs(s: &[u8], n: usize, buf: &mut [u8])
+    requires { ⌜ (length (now s) ≡ n + n) × (n ≤ length (now buf)) × (digitsIn (now s) ≡ length (now s)) ⌝ }
+    ensures { λ _. ⌜ now (buf .exit) ≡ over (octetsIn (now (s .entry))) (now (buf .entry)) ⌝ }
 {
-    if digit < b'0' {
-        return 0;
+    let mut i: usize = 0;
+    while i < n {
+        buf[i] = pair(s[i + i], s[i + i + 1]);
+        i += 1;
     }
-    if digit <= b'9' {
-        return digit - b'0';
-    }
-    if digit < b'A' {
-        return 0;
-    }
-    if digit <= b'F' {
-        return digit - b'A' + 10;
-    }
-    0
 }
 
+fn pair(a: u8, b: u8) -> u8
+    requires { ⌜ (valueOf a < 16) × (valueOf b < 16) ⌝ }
+    ensures { λ r. ⌜ r ≡ valueOf a * 16 + valueOf b ⌝ }
+{
+    value(a) * 16 + value(b)
+}
+
+// The value of a digit, and 16 for what is none.
+fn value(x: u8) -> u8
+    ensures { λ r. ⌜ (r ≡ valueOf x) × (r ≤ 16) ⌝ }
+{
+    if x < b'0' {
+        return 16;
+    }
+    if x <= b'9' {
+        return x - b'0';
+    }
+    if x < b'A' {
+        return 16;
+    }
+    if x <= b'F' {
+        return x - b'A' + 10;
+    }
+    if x < b'a' {
+        return 16;
+    }
+    if x <= b'f' {
+        return x - b'a' + 10;
+    }
+    16
+}
 // The first n octets, or as many as there are, in capitals.
 pub fn print_octets(s: &[u8], n: usize) {
     let mut i = 0;

@@ -1,21 +1,23 @@
 use borrow.Author.Needs.{needs}
-use Prim.Native.Nat.{_≤_, _<_, _-_}
+use Prim.Native.Nat.{_≤_, _-_}
 use lib.ListN.{length}
-use Rattle.drafts.proofs.text.until.Statement.{statement}
-use Rattle.drafts.proofs.text.until.Tie as tie
+use Rattle.drafts.proofs.text.name.Statement.{statement}
+use Rattle.drafts.proofs.text.name.Tie as tie
 
 abbrev Inv-loop : tie.InvT-loop
-Inv-loop s at x i₀ i = (at ≤ i) × (i ≤ length s)
+Inv-loop s i₀ i = i ≤ length s
 
 abbrev μ-loop : tie.MeasureT-loop
-μ-loop s at x i₀ i = length s - i
+μ-loop s i₀ i = length s - i
 
-pub until-spec : {M : Type 1} → statement M
-until-spec =
+pub name-spec : {M : Type 1} → statement M
+name-spec =
     tie.close
     (tie.spec
     Inv-loop
     μ-loop
+    (λ c. search needs)
+    (λ c. search needs)
     (λ c. search needs)
     (λ c. search needs)
     (λ c. search needs)
