@@ -216,6 +216,8 @@ static void readers(void) {
     MEASURE("committed, 16 flows", ancp_card_committed(&c, &tables, 20));
     MEASURE("flows, 16 flows", ancp_card_flows(&c, &tables, 20).count);
     MEASURE("is active, last of 16 flows", ancp_card_is_active(&c, &tables, 20, &last));
+    MEASURE("flow, last of 16 flows", ancp_card_flow(&c, &tables, 20, &last).charged);
+    MEASURE("request", ancp_card_request(&c, 20).asking);
     MEASURE("extras, full pool", ancp_card_extras(&c));
     MEASURE("next transaction", ancp_card_next_transaction(&c));
 }

@@ -1,7 +1,7 @@
 /* A host of one line: starts a card, brings the line up, sets its delegation, joins a channel, and hands in the message
-   of a file. Then it sends COUNT messages of its own to the server (it prints them): grey joins and requests for bandwidth
-   by turns. What must outlast a restart, the limit of README's "A restart", is in LIMIT-FILE.
-   Use: example MESSAGE-FILE LIMIT-FILE [COUNT] */
+   of a file. Then it sends COUNT messages of its own to the server (it prints them): grey joins and requests for
+   bandwidth by turns. What must outlast a restart, the limit of README's "A restart", is in LIMIT-FILE. Use: example
+   MESSAGE-FILE LIMIT-FILE [COUNT] */
 #define _POSIX_C_SOURCE 200809L
 #include "ancp_card.h"
 #include "ancp_text.h"
@@ -141,6 +141,16 @@ static int filled(void) {
            failed("entry", ancp_set_entry(&tables, 1, ANCP_LIST_GREY, &grey, 32, 0));
 }
 
+/* Why a start is refused. */
+static int why(uint32_t first) {
+    ancp_fault fault;
+    char text[128];
+    if (ancp_card_start_fault(&fault, &tables, 1, 2, 2, first) != ANCP_BAD_START) return 1;
+    ancp_fault_text(text, sizeof text, &fault);
+    fprintf(stderr, "%s\n", text);
+    return 1;
+}
+
 int main(int argc, char **argv) {
     uint8_t reply[ANCP_REPLY];
     size_t length = 0;
@@ -158,12 +168,13 @@ int main(int argc, char **argv) {
     STEP();
     if (!limit) return fprintf(stderr, "%s: no transaction number\n", limit_file), 1;
     if (!store(limit)) return 1;
-    if (failed("start", ancp_card_start(&card, &tables, 1, 2, 2, true, true, first))) return 1;
+    if (failed("start", ancp_card_start(&card, &tables, 1, 2, 2, true, true, first))) return why(first);
     STEP();
     if (failed("port up", ancp_card_port_up(&card, &tables, 0))) return 1;
     if (failed("set delegation", ancp_card_set_delegation(&card, &tables, 0, 4000))) return 1;
     if (failed("join", ancp_card_join(&card, &tables, 0, &channel, reply, sizeof reply, &length))) return 1;
-    printf("committed %llu of %u\n", (unsigned long long)ancp_card_committed(&card, &tables, 0), ancp_card_delegation(&card, 0));
+    printf("committed %llu of %u\n", (unsigned long long)ancp_card_committed(&card, &tables, 0),
+           ancp_card_delegation(&card, 0));
     if (received(argv[1])) return 1;
     for (int i = 0, count = argc == 4 ? atoi(argv[3]) : 0; i < count; i++)
         if (request(i % 2 == 1)) return 1;

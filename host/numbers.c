@@ -33,9 +33,29 @@ static void walk(uint32_t first) {
 }
 
 int main(void) {
-    static const uint32_t edges[] = {0, 1, 2, 3, 1023, 1024, 8388607, 8388608, LAST - 1024, LAST - 2, LAST - 1, LAST, LAST + 1,
-                                     LAST + 2, 2 * LAST - 1, 2 * LAST, 2 * LAST + 1, 255u * LAST, 256u * LAST, 0x7FFFFFFFu,
-                                     0x80000000u, 0xFFFFFFFEu, 0xFFFFFFFFu};
+    static const uint32_t edges[] = {0,
+                                     1,
+                                     2,
+                                     3,
+                                     1023,
+                                     1024,
+                                     8388607,
+                                     8388608,
+                                     LAST - 1024,
+                                     LAST - 2,
+                                     LAST - 1,
+                                     LAST,
+                                     LAST + 1,
+                                     LAST + 2,
+                                     2 * LAST - 1,
+                                     2 * LAST,
+                                     2 * LAST + 1,
+                                     255u * LAST,
+                                     256u * LAST,
+                                     0x7FFFFFFFu,
+                                     0x80000000u,
+                                     0xFFFFFFFEu,
+                                     0xFFFFFFFFu};
     enum { COUNT = sizeof edges / sizeof *edges };
     for (size_t i = 0; i < COUNT; i++)
         for (size_t k = 0; k < COUNT; k++) pair(edges[i], edges[k]);

@@ -1,34 +1,31 @@
 /* Every function of ancp_card.h and ancp_text.h, with right and with wrong arguments. `make test` runs it under the
    sanitizers of addresses and of undefined behaviour; it ends with status 1 at the first thing that is not so. */
-#include "ancp_card.h"
-#include "ancp_text.h"
+#include "test.h"
 #include <stdio.h>
 #include <stdlib.h>
 
-static unsigned long tried;
-static void same(const char *file, int line, const char *what, unsigned long long is, unsigned long long due) {
+unsigned long tried;
+
+void same(const char *file, int line, const char *what, unsigned long long is, unsigned long long due) {
     tried++;
     if (is == due) return;
     printf("%s:%d: %s is %llu, not %llu\n", file, line, what, is, due);
     exit(1);
 }
-#define IS(what, due) same(__FILE__, __LINE__, #what, (unsigned long long)(what), (unsigned long long)(due))
-#define HOLDS(what) IS(!!(what), 1)
-#define TEXT(what, due) text(__FILE__, __LINE__, #what, what, due)
-static void text(const char *file, int line, const char *what, const char *is, const char *due) {
+
+void same_text(const char *file, int line, const char *what, const char *is, const char *due) {
     tried++;
     if (strcmp(is, due) == 0) return;
     printf("%s:%d: %s is \"%s\", not \"%s\"\n", file, line, what, is, due);
     exit(1);
 }
 
-/* ---- a card of three ports: p1, p2, and an id of 63 octets. Channels: white 1000, grey 500, black, IPv6 with a source. */
-static ancp_tables tables;
-static ancp_card card;
-static uint8_t reply[ANCP_REPLY + 64];
-static ancp_flow white, grey, black, six, unlisted, all, everything;
-static size_t length;
-enum { FIRST = 0xABCDEF, ROOM = ANCP_REPLY };
+ancp_tables tables;
+ancp_card card;
+uint8_t reply[ANCP_REPLY + 64];
+ancp_flow white, grey, black, six, unlisted;
+size_t length;
+static ancp_flow all, everything;
 
 static void flows(void) {
     IS(ancp_flow_from_text(&white, "233.252.0.1", NULL), ANCP_DONE);
@@ -40,7 +37,7 @@ static void flows(void) {
     IS(ancp_flow_from_text(&everything, "ff00::", "::"), ANCP_DONE);
 }
 
-static void fill(void) {
+void fill(void) {
     char long_id[63];
     memset(long_id, 'x', sizeof long_id);
     memset(&tables, 0, sizeof tables);
@@ -63,7 +60,7 @@ static ancp_number start(ancp_card *c, bool white_cac, bool add_cac) {
 }
 
 /* port 0 up with delegation 4000 */
-static void begin(bool white_cac, bool add_cac) {
+void begin(bool white_cac, bool add_cac) {
     fill();
     IS(start(&card, white_cac, add_cac), ANCP_DONE);
     IS(ancp_card_port_up(&card, &tables, 0), ANCP_DONE);
@@ -71,7 +68,7 @@ static void begin(bool white_cac, bool add_cac) {
 }
 
 /* ---- messages */
-static uint8_t message[ANCP_MESSAGE];
+static uint8_t message[ANCP_MESSAGE + 1];
 
 static size_t put16(size_t n, unsigned x) {
     message[n] = (uint8_t)(x >> 8);
@@ -81,7 +78,7 @@ static size_t put16(size_t n, unsigned x) {
 static size_t put32(size_t n, uint32_t x) { return put16(put16(n, x >> 16), x & 0xFFFF); }
 
 /* the header, and a Target that names p1 */
-static size_t head(unsigned kind, unsigned result, uint32_t transaction) {
+size_t head(unsigned kind, unsigned result, uint32_t transaction) {
     size_t n = put16(0, 0x880C);
     n = put16(put16(n, 0), 0x3200 | kind);
     n = put16(n, result << 12);
@@ -99,13 +96,13 @@ static size_t closed(size_t n) {
     return n;
 }
 
-static ancp_number send_in(size_t n) {
+ancp_number send_in(size_t n) {
     closed(n);
     memset(reply, 0xA5, sizeof reply);
     return ancp_card_message(&card, &tables, message, n, reply, ROOM, &length);
 }
 
-static size_t command(size_t n, unsigned code, unsigned accounting, const ancp_flow *f) {
+size_t command(size_t n, unsigned code, unsigned accounting, const ancp_flow *f) {
     n = put16(put16(n, 0x0011), 16);
     n = put32(n, code << 24 | accounting << 16);
     n = put16(put16(n, 0x0019), 8);
@@ -196,6 +193,67 @@ static void starts(void) {
     before = card;
     IS(ancp_card_start(&card, &tables, 3, 4, 4, true, true, 0), ANCP_BAD_START);
     IS(memcmp(&card, &before, sizeof card), 0);
+}
+
+/* why 14: the first test that fails */
+static void fault(size_t ports, size_t channels, size_t entries, uint32_t first, unsigned table, size_t row,
+                  unsigned field, const char *due) {
+    ancp_fault f;
+    ancp_card c;
+    char out[128];
+    memset(&f, 0xA5, sizeof f);
+    IS(ancp_card_start_fault(&f, &tables, ports, channels, entries, first), table ? ANCP_BAD_START : ANCP_DONE);
+    IS(ancp_card_start(&c, &tables, ports, channels, entries, false, true, first), table ? ANCP_BAD_START : ANCP_DONE);
+    IS(f.table, table);
+    IS(f.row, row);
+    IS(f.field, field);
+    size_t n = ancp_fault_text(out, sizeof out, &f);
+    IS(n, strlen(out));
+    TEXT(out, due);
+}
+
+static void faults(void) {
+    ancp_fault f;
+    ancp_flow g;
+    fill();
+    fault(3, 4, 4, 1, ANCP_TABLE_NONE, 0, ANCP_FIELD_NONE, "none: nothing is wrong");
+    fault(65, 257, 129, 0, ANCP_TABLE_PORTS, 0, ANCP_FIELD_COUNT, "ports: more rows than the table has");
+    fault(4, 257, 129, 0, ANCP_TABLE_PORTS, 3, ANCP_FIELD_LENGTH, "ports, row 3: circuit id not of 1 to 63 octets");
+    fault(3, 257, 129, 0, ANCP_TABLE_CHANNELS, 0, ANCP_FIELD_COUNT, "channels: more rows than the table has");
+    fault(3, 5, 129, 0, ANCP_TABLE_CHANNELS, 4, ANCP_FIELD_RATE, "channels, row 4: rate not 1 to 10,000,000");
+    fault(3, 4, 129, 0, ANCP_TABLE_ENTRIES, 0, ANCP_FIELD_COUNT, "entries: more rows than the table has");
+    fault(3, 4, 5, 0, ANCP_TABLE_ENTRIES, 4, ANCP_FIELD_FAMILY, "entries, row 4: family neither 1 nor 2");
+    fault(3, 4, 4, 0, ANCP_TABLE_FIRST, 0, ANCP_FIELD_NUMBER, "first transaction number: not 1 to 16,777,215");
+    IS(ancp_set_port(&tables, 1, "p1", 2), ANCP_DONE);
+    fault(3, 4, 4, 1, ANCP_TABLE_PORTS, 1, ANCP_FIELD_SAME, "ports, row 1: the same as an earlier row");
+    fill();
+    IS(ancp_set_channel(&tables, 2, &white, 1), ANCP_DONE);
+    fault(3, 4, 4, 1, ANCP_TABLE_CHANNELS, 2, ANCP_FIELD_SAME, "channels, row 2: the same as an earlier row");
+    g = white;
+    g.group[0] = 1;
+    IS(ancp_set_channel(&tables, 2, &g, 1), ANCP_DONE);
+    fault(3, 4, 4, 1, ANCP_TABLE_CHANNELS, 2, ANCP_FIELD_GROUP, "channels, row 2: no group of the family");
+    g = black;
+    g.sourced = 2;
+    IS(ancp_set_channel(&tables, 2, &g, 1), ANCP_DONE);
+    fault(3, 4, 4, 1, ANCP_TABLE_CHANNELS, 2, ANCP_FIELD_SOURCE, "channels, row 2: no source of the family");
+    g.family = (ancp_family)3;
+    IS(ancp_set_channel(&tables, 2, &g, 1), ANCP_DONE);
+    fault(3, 4, 4, 1, ANCP_TABLE_CHANNELS, 2, ANCP_FIELD_FAMILY, "channels, row 2: family neither 1 nor 2");
+    fill();
+    IS(ancp_set_entry(&tables, 1, (ancp_list)4, &all, 4, 0), ANCP_DONE);
+    fault(3, 4, 4, 1, ANCP_TABLE_ENTRIES, 1, ANCP_FIELD_LIST, "entries, row 1: list not 1 to 3");
+    fill();
+    tables.entries[2 * ANCP_ENTRY_ROW + 2] = 33;
+    fault(3, 4, 4, 1, ANCP_TABLE_ENTRIES, 2, ANCP_FIELD_GROUP_LENGTH,
+          "entries, row 2: group prefix longer than an address");
+    fill();
+    tables.entries[2 * ANCP_ENTRY_ROW + 3] = 33;
+    fault(3, 4, 4, 1, ANCP_TABLE_ENTRIES, 2, ANCP_FIELD_SOURCE_LENGTH,
+          "entries, row 2: source prefix longer than an address");
+    IS(ancp_card_start_fault(NULL, &tables, 3, 4, 4, 1), ANCP_NULL);
+    IS(ancp_card_start_fault(&f, NULL, 3, 4, 4, 1), ANCP_NULL);
+    IS(ancp_fault_text(NULL, 0, NULL), 0);
 }
 
 /* what a start counts: ports, channels, entries, each on its own */
@@ -461,7 +519,7 @@ static void buffers(void) {
     g = good();
     g.reply = (uint8_t *)&card;
     placed(g, ANCP_OVERLAP, ANCP_OVERLAP);
-    g.reply = (uint8_t *)&card - ROOM + 1;
+    g.reply = (uint8_t *)((uintptr_t)&card - ROOM + 1);
     placed(g, ANCP_OVERLAP, ANCP_OVERLAP);
     g.reply = (uint8_t *)(&card + 1) - 1;
     placed(g, ANCP_OVERLAP, ANCP_OVERLAP);
@@ -509,6 +567,9 @@ static void read_nothing(const ancp_card *c, const ancp_tables *t, const ancp_fl
     IS(ancp_card_committed(c, t, 0), 0);
     IS(ancp_card_flows(c, t, 0).count, 0);
     HOLDS(!ancp_card_is_active(c, t, 0, f));
+    HOLDS(!ancp_card_request(c, 0).asking);
+    HOLDS(!ancp_card_flow(c, t, 0, f).active);
+    HOLDS(!ancp_card_flow_of_row(c, 0, 0).active);
     IS(ancp_card_extras(c), 0);
     IS(ancp_card_next_transaction(c), 0);
 }
@@ -524,6 +585,42 @@ static void readers(void) {
     IS(ancp_card_flows(&card, NULL, 0).count, 0);
     HOLDS(!ancp_card_is_active(&card, NULL, 0, &white));
     HOLDS(!ancp_card_is_active(&card, &tables, 0, NULL));
+    HOLDS(!ancp_card_flow(&card, NULL, 0, &white).active);
+    HOLDS(!ancp_card_flow(&card, &tables, 0, NULL).active);
+}
+
+/* the open request, and what each flow has: white_cac charges the join, the Add is not charged and has accounting 1 */
+static void states(void) {
+    ancp_request r;
+    ancp_flow_state a, b;
+    begin(true, false);
+    r = ancp_card_request(&card, 0);
+    HOLDS(!r.asking && !r.required && !r.preferred && !r.transaction);
+    IS(ancp_card_ask(&card, &tables, 0, 5000, 6000, reply, ROOM, &length), ANCP_DONE);
+    r = ancp_card_request(&card, 0);
+    HOLDS(r.asking);
+    IS(r.required, 5000);
+    IS(r.preferred, 6000);
+    IS(r.transaction, FIRST);
+    HOLDS(!ancp_card_request(&card, 1).asking);
+    HOLDS(!ancp_card_request(&card, 64).asking);
+    IS(ancp_card_join(&card, &tables, 0, &white, reply, ROOM, &length), ANCP_DONE);
+    IS(send_in(command(head(144, 1, 7), 1, 1, &grey)), ANCP_DONE);
+    a = ancp_card_flow(&card, &tables, 0, &white);
+    b = ancp_card_flow_of_row(&card, 0, 0);
+    HOLDS(a.active && a.charged && a.accounting == 0);
+    HOLDS(b.active && b.charged && b.accounting == 0);
+    a = ancp_card_flow(&card, &tables, 0, &grey);
+    b = ancp_card_flow_of_row(&card, 0, 1);
+    HOLDS(a.active && !a.charged && a.accounting == 1);
+    HOLDS(b.active && !b.charged && b.accounting == 1);
+    a = ancp_card_flow(&card, &tables, 0, &six);
+    b = ancp_card_flow_of_row(&card, 1, 0);
+    HOLDS(!a.active && !a.charged && a.accounting == 0);
+    HOLDS(!b.active && !b.charged && b.accounting == 0);
+    HOLDS(!ancp_card_flow(&card, &tables, 0, &unlisted).active);
+    HOLDS(!ancp_card_flow(&card, &tables, 3, &white).active);
+    HOLDS(!ancp_card_flow_of_row(&card, SIZE_MAX, 0).active);
 }
 
 /* five flows of a port: one extra */
@@ -558,114 +655,12 @@ static void restart(void) {
     IS(ancp_numbers_left(7, 16777216), 0);
 }
 
-/* ---- text */
-static void number_texts(void) {
-    static const uint16_t codes[] = {0, 2, 6, 0x13, 0x51, 0x53, 0x54, 0x55, 0x64, 0x65, 0x66, 0x67, 0x500};
-    for (unsigned i = 0; i < 256; i++) {
-        bool known = i <= 16 || (100 <= i && i <= 107);
-        IS(strcmp(ancp_number_text((ancp_number)i), "no number of the card") != 0, known);
-        for (unsigned k = 0; known && k < i; k++) HOLDS(strcmp(ancp_number_text((ancp_number)i), ancp_number_text((ancp_number)k)) != 0);
-    }
-    TEXT(ancp_number_text(ANCP_RATE), "rate does not fit");
-    TEXT(ancp_number_text(ANCP_OVERLAP), "arguments overlap");
-    for (unsigned i = 0; i < 4096; i++) {
-        bool known = false;
-        for (size_t k = 0; k < sizeof codes / sizeof *codes; k++) known = known || codes[k] == i;
-        IS(strcmp(ancp_code_text((uint16_t)i), "no result code of the card") != 0, known);
-    }
-    TEXT(ancp_code_text(0x500), "one or more of the specified ports do not exist");
-}
-
-/* the text of an address made of text */
-static const char *again(const char *address) {
-    static char out[ANCP_ADDRESS_TEXT];
-    ancp_family family = ANCP_IPV4;
-    uint32_t words[4] = {7, 7, 7, 7};
-    if (ancp_address_from_text(&family, words, address) != ANCP_DONE) {
-        IS(words[0] == 7 && words[3] == 7, 1);
-        return "";
-    }
-    size_t n = ancp_address_text(out, sizeof out, family, words);
-    IS(n, strlen(out));
-    return out;
-}
-
-static void addresses(void) {
-    static const char *const good_ones[][2] = {
-        {"0.0.0.0", "0.0.0.0"}, {"255.255.255.255", "255.255.255.255"}, {"233.252.0.1", "233.252.0.1"}, {"::", "::"},
-        {"::1", "::1"}, {"1::", "1::"}, {"FF3E::8000:1", "ff3e::8000:1"}, {"1:2:3:4:5:6:7:8", "1:2:3:4:5:6:7:8"},
-        {"1:0:0:2:0:0:0:3", "1:0:0:2::3"}, {"1:0:0:2:0:0:3:4", "1::2:0:0:3:4"}, {"1:0:2:3:4:5:6:7", "1:0:2:3:4:5:6:7"},
-        {"::ffff:1.2.3.4", "::ffff:102:304"}, {"1:2:3:4:5:6:1.2.3.4", "1:2:3:4:5:6:102:304"}, {"1:2:3:4:5:6:7::", "1:2:3:4:5:6:7:0"},
-        {"::2:3:4:5:6:7:8", "0:2:3:4:5:6:7:8"}, {"0001:0db8::", "1:db8::"}};
-    static const char *const bad_ones[] = {
-        "", " ", "1", "1.2.3", "1.2.3.4.5", "1.2.3.256", "01.2.3.4", "1.2.3.4 ", " 1.2.3.4", "1..2.3", "1.2.3.", "-1.2.3.4",
-        "1.2.3.4/8", "0x1.2.3.4", ":", ":::", "1:2", "1:2:3:4:5:6:7", "1:2:3:4:5:6:7:8:9", "1::2::3", "12345::", "g::", "1:", ":1",
-        "1:2:3:4:5:6:7:8::", "::1:2:3:4:5:6:7:8", "1:2:3:4:5:6:7:1.2.3.4", "::1.2.3", "1.2.3.4::", "fe80::1%eth0", "1:::2"};
-    for (size_t i = 0; i < sizeof good_ones / sizeof *good_ones; i++) TEXT(again(good_ones[i][0]), good_ones[i][1]);
-    for (size_t i = 0; i < sizeof bad_ones / sizeof *bad_ones; i++) TEXT(again(bad_ones[i]), "");
-}
-
-static void flow_texts(void) {
-    char out[ANCP_FLOW_TEXT], small[8];
-    ancp_flow f = white, kept = white;
-    uint32_t words[4] = {0x01020304, 0, 0, 0};
-    ancp_family family = ANCP_IPV4;
-    fill();
-    IS(ancp_flow_text(out, sizeof out, &white), strlen("(*, 233.252.0.1)"));
-    TEXT(out, "(*, 233.252.0.1)");
-    ancp_flow_text(out, sizeof out, &six);
-    TEXT(out, "(2001:db8::1, ff3e::8000:1)");
-    IS(ancp_flow_from_text(&f, "1:2:3:4:5:6:7:8", "ffff:ffff:ffff:ffff:ffff:ffff:ffff:ffff"), ANCP_DONE);
-    HOLDS(ancp_flow_text(out, sizeof out, &f) < ANCP_FLOW_TEXT);
-    memset(f.group, 0xFF, sizeof f.group);
-    IS(ancp_flow_text(out, sizeof out, &f), ANCP_FLOW_TEXT - 2);
-    IS(ancp_flow_text(small, sizeof small, &white), 16);
-    TEXT(small, "(*, 233");
-    IS(ancp_flow_text(NULL, 0, &white), 16);
-    IS(ancp_address_text(small, 0, ANCP_IPV4, words), 7);
-    IS(ancp_flow_text(out, sizeof out, NULL), 0);
-    IS(ancp_address_text(out, sizeof out, ANCP_IPV4, NULL), 0);
-    f = kept;
-    IS(ancp_flow_from_text(&f, "233.252.0.1", "2001:db8::1"), ANCP_BAD_TEXT);
-    IS(ancp_flow_from_text(&f, "233.252.0.1.", NULL), ANCP_BAD_TEXT);
-    IS(ancp_flow_from_text(&f, "233.252.0.1", "x"), ANCP_BAD_TEXT);
-    IS(ancp_flow_from_text(&f, NULL, NULL), ANCP_NULL);
-    IS(ancp_flow_from_text(NULL, "233.252.0.1", NULL), ANCP_NULL);
-    IS(memcmp(&f, &kept, sizeof f), 0);
-    IS(ancp_address_from_text(NULL, words, "1.2.3.4"), ANCP_NULL);
-    IS(ancp_address_from_text(&family, NULL, "1.2.3.4"), ANCP_NULL);
-    IS(ancp_address_from_text(&family, words, NULL), ANCP_NULL);
-}
-
-static void port_texts(void) {
-    char out[2048];
-    begin(true, true);
-    IS(ancp_card_join(&card, &tables, 0, &white, reply, ROOM, &length), ANCP_DONE);
-    IS(send_in(command(head(144, 1, 7), 1, 1, &grey)), ANCP_DONE);
-    IS(ancp_card_ask(&card, &tables, 0, 5000, 6000, reply, ROOM, &length), ANCP_DONE);
-    size_t n = ancp_card_port_text(out, sizeof out, &card, &tables, 0);
-    IS(n, strlen(out));
-    TEXT(out, "port 0 \"p1\": up, delegation 4000, committed 1500\n"
-              "  channel 0 (*, 233.252.0.1), rate 1000\n"
-              "  channel 1 (*, 233.252.0.2), rate 500\n");
-    IS(ancp_set_port(&tables, 1, "\"\\\n", 3), ANCP_DONE);
-    ancp_card_port_text(out, sizeof out, &card, &tables, 1);
-    TEXT(out, "port 1 \"\\x22\\x5C\\x0A\": down, delegation 0, committed 0\n");
-    IS(ancp_card_port_text(out, 7, &card, &tables, 1), 55);
-    TEXT(out, "port 1");
-    ancp_card_port_text(out, sizeof out, &card, &tables, 3);
-    TEXT(out, "port 3: none\n");
-    ancp_card_port_text(out, sizeof out, NULL, &tables, 0);
-    TEXT(out, "port 0: none\n");
-    ancp_card_port_text(out, sizeof out, &card, NULL, 0);
-    TEXT(out, "port 0: none\n");
-}
-
 int main(void) {
     set_ports();
     set_rows();
     starts();
     counts();
+    faults();
     equal_in_memory();
     port_calls();
     joins();
@@ -676,12 +671,10 @@ int main(void) {
     buffers();
     messages_in();
     readers();
+    states();
     extras();
     restart();
-    number_texts();
-    addresses();
-    flow_texts();
-    port_texts();
+    texts();
     printf("header: %lu values as they must be\n", tried);
     return 0;
 }

@@ -222,6 +222,38 @@ size_t ancp_flow_text(char *out, size_t room, const ancp_flow *f) {
     return w.length;
 }
 
+/* ---- why 14 */
+static const char *table_text(uint8_t table) {
+    static const char *const texts[] = {"none", "ports", "channels", "entries", "first transaction number"};
+    return table < sizeof texts / sizeof *texts ? texts[table] : "no table";
+}
+
+static const char *field_text(uint8_t field) {
+    static const char *const texts[] = {"nothing is wrong",
+                                        "more rows than the table has",
+                                        "circuit id not of 1 to 63 octets",
+                                        "the same as an earlier row",
+                                        "rate not 1 to 10,000,000",
+                                        "family neither 1 nor 2",
+                                        "no group of the family",
+                                        "no source of the family",
+                                        "list not 1 to 3",
+                                        "group prefix longer than an address",
+                                        "source prefix longer than an address",
+                                        "not 1 to 16,777,215"};
+    return field < sizeof texts / sizeof *texts ? texts[field] : "no field";
+}
+
+size_t ancp_fault_text(char *out, size_t room, const ancp_fault *fault) {
+    writer w = into(out, room);
+    if (!fault) return w.length;
+    put(&w, "%s", table_text(fault->table));
+    if (fault->field != ANCP_FIELD_COUNT && ANCP_TABLE_PORTS <= fault->table && fault->table <= ANCP_TABLE_ENTRIES)
+        put(&w, ", row %zu", fault->row);
+    put(&w, ": %s", field_text(fault->field));
+    return w.length;
+}
+
 /* ---- a port */
 static void put_id(writer *w, const uint8_t *row) {
     put(w, "\"");
@@ -242,20 +274,27 @@ static void put_channel(writer *w, const ancp_tables *t, uint8_t k) {
     put(w, ", rate %u", row[2]);
 }
 
+static void put_flow_of(writer *w, const ancp_card *card, const ancp_tables *t, size_t p, uint8_t k) {
+    ancp_flow_state state = ancp_card_flow_of_row(card, p, k);
+    put_channel(w, t, k);
+    put(w, ", %s, accounting %u\n", state.charged ? "charged" : "not charged", state.accounting);
+}
+
 size_t ancp_card_port_text(char *out, size_t room, const ancp_card *card, const ancp_tables *t, size_t p) {
     writer w = into(out, room);
     ancp_rows flows = ancp_card_flows(card, t, p);
+    ancp_request request = ancp_card_request(card, p);
     if (!ancp_card_is_started(card) || !t || p >= card->core.head.port_count) {
         put(&w, "port %zu: none\n", p);
         return w.length;
     }
     put(&w, "port %zu ", p);
     put_id(&w, t->ids + p * ANCP_ID_ROW);
-    put(&w, ": %s, delegation %u, committed %llu\n", ancp_card_is_up(card, p) ? "up" : "down", ancp_card_delegation(card, p),
-        (unsigned long long)ancp_card_committed(card, t, p));
-    for (size_t i = 0; i < flows.count && i < sizeof flows.rows; i++) {
-        put_channel(&w, t, flows.rows[i]);
-        put(&w, "\n");
-    }
+    put(&w, ": %s, delegation %u, committed %llu\n", ancp_card_is_up(card, p) ? "up" : "down",
+        ancp_card_delegation(card, p), (unsigned long long)ancp_card_committed(card, t, p));
+    if (request.asking)
+        put(&w, "  asks for %u, preferred %u, by transaction %u\n", request.required, request.preferred,
+            request.transaction);
+    for (size_t i = 0; i < flows.count && i < sizeof flows.rows; i++) put_flow_of(&w, card, t, p, flows.rows[i]);
     return w.length;
 }

@@ -9,10 +9,11 @@
    separate cards may be called at the same time, also on the same tables. Readers of one card may run side by side, but
    not beside a call on it.
 
-   Across a restart no transaction number may come out twice as long as a server may still answer: see "a restart" below.
+   Across a restart no transaction number may come out twice as long as a server may still answer: see "a restart"
+   below.
 
-   Link with libancp_card.a (`make` makes it by `rt staticlib exports`), whose functions of the card are proved; the inline
-   functions here look at pointers and hand the arguments on. Names as text are in ancp_text.h. */
+   Link with libancp_card.a (`make` makes it by `rt staticlib exports`), whose functions of the card are proved; the
+   inline functions here look at pointers and hand the arguments on. Names as text are in ancp_text.h. */
 #ifndef ANCP_CARD_H
 #define ANCP_CARD_H
 
@@ -87,9 +88,12 @@ typedef struct { ancp_family family; uint32_t sourced, group[4], source[4]; } an
 
 /* ---- the start's tables: fill them once, lend them with every call */
 typedef struct {
-    uint8_t ids[ANCP_PORTS * ANCP_ID_ROW];                /* the circuit id's length (1 to 63), then the id */
-    uint32_t channels[ANCP_CHANNELS * ANCP_CHANNEL_ROW];  /* family, sourced, rate (1 to 10,000,000 kbit/s), group (4), source (4) */
-    uint32_t entries[ANCP_ENTRIES * ANCP_ENTRY_ROW];      /* family, list, group prefix length, source prefix length, group (4), source (4) */
+    /* a row: the circuit id's length (1 to 63), then the id */
+    uint8_t ids[ANCP_PORTS * ANCP_ID_ROW];
+    /* a row: family, sourced, rate (1 to 10,000,000 kbit/s), group (4), source (4) */
+    uint32_t channels[ANCP_CHANNELS * ANCP_CHANNEL_ROW];
+    /* a row: family, list, group prefix length, source prefix length, group (4), source (4) */
+    uint32_t entries[ANCP_ENTRIES * ANCP_ENTRY_ROW];
 } ancp_tables;
 
 /* ---- the card: the host keeps it, and reads and writes nothing of it but through the functions below. It holds no
@@ -116,7 +120,34 @@ typedef struct { size_t count; uint8_t rows[16]; } ancp_rows;
 /* a call with its arguments; `amount` is the delegation that is set, or what is required when the host asks */
 typedef struct { uint8_t which, unused[7]; size_t port; uint32_t amount, preferred; ancp_flow flow; } ancp_call;
 typedef struct { uint8_t number, unused[7]; size_t length; } ancp_answer;
-typedef struct { ancp_core core; uint8_t number, unused[7]; } ancp_started;
+
+/* the open request; zeros where none is open */
+typedef struct { bool asking; uint8_t unused[3]; uint32_t required, preferred, transaction; } ancp_request;
+
+/* a flow on a port: active or not, charged or not, its accounting (0 where it is not active) */
+typedef struct { bool active, charged; uint8_t accounting; } ancp_flow_state;
+
+/* Why a start gives ANCP_BAD_START: the first test that fails, by table, row and field. The order: ports (count; each
+   row: length, same), channels (count; each row: rate, family, group, source, same), entries (count; each row: family,
+   list, group length, source length), first number. */
+typedef struct { size_t row; uint8_t table, field, unused[6]; } ancp_fault;
+enum {
+    ANCP_TABLE_NONE = 0, ANCP_TABLE_PORTS = 1, ANCP_TABLE_CHANNELS = 2, ANCP_TABLE_ENTRIES = 3, ANCP_TABLE_FIRST = 4
+};
+enum {
+    ANCP_FIELD_NONE = 0,
+    ANCP_FIELD_COUNT = 1,          /* more rows than the table has (64, 256, 128); row is 0 */
+    ANCP_FIELD_LENGTH = 2,         /* ports: the circuit id has not 1 to 63 octets */
+    ANCP_FIELD_SAME = 3,           /* ports, channels: an earlier row has the same id, is the same flow */
+    ANCP_FIELD_RATE = 4,           /* channels: not 1 to 10,000,000 */
+    ANCP_FIELD_FAMILY = 5,         /* channels, entries: neither 1 nor 2 */
+    ANCP_FIELD_GROUP = 6,          /* channels: no group of the family, or words beyond its width */
+    ANCP_FIELD_SOURCE = 7,         /* channels: `sourced` or source not good */
+    ANCP_FIELD_LIST = 8,           /* entries: not 1 to 3 */
+    ANCP_FIELD_GROUP_LENGTH = 9,   /* entries: group prefix longer than an address of the family */
+    ANCP_FIELD_SOURCE_LENGTH = 10, /* entries: the same of the source prefix */
+    ANCP_FIELD_NUMBER = 11         /* first: the first transaction number is not 1 to 16,777,215; row is 0 */
+};
 
 /* ---- the layout: each struct with size and alignment, each field with its place and size. The assertions hold this
    compiler to it (`#pragma pack` before this line is an error), host/layout.c the proved code. */
@@ -142,16 +173,22 @@ typedef struct { ancp_core core; uint8_t number, unused[7]; } ancp_started;
     FIELD(ancp_call, amount, 16, 4) FIELD(ancp_call, preferred, 20, 4) FIELD(ancp_call, flow, 24, 40) \
     STRUCT(ancp_answer, 16, 8) FIELD(ancp_answer, number, 0, 1) FIELD(ancp_answer, unused, 1, 7) \
     FIELD(ancp_answer, length, 8, 8) \
-    STRUCT(ancp_started, 3368, 8) FIELD(ancp_started, core, 0, 3360) FIELD(ancp_started, number, 3360, 1) \
-    FIELD(ancp_started, unused, 3361, 7)
+    STRUCT(ancp_request, 16, 4) FIELD(ancp_request, asking, 0, 1) FIELD(ancp_request, unused, 1, 3) \
+    FIELD(ancp_request, required, 4, 4) FIELD(ancp_request, preferred, 8, 4) FIELD(ancp_request, transaction, 12, 4) \
+    STRUCT(ancp_flow_state, 3, 1) FIELD(ancp_flow_state, active, 0, 1) FIELD(ancp_flow_state, charged, 1, 1) \
+    FIELD(ancp_flow_state, accounting, 2, 1) \
+    STRUCT(ancp_fault, 16, 8) FIELD(ancp_fault, row, 0, 8) FIELD(ancp_fault, table, 8, 1) \
+    FIELD(ancp_fault, field, 9, 1) FIELD(ancp_fault, unused, 10, 6)
 
 #define ANCP_STRUCT_IS(type, size, align) \
-    ANCP_ASSERT(sizeof(type) == (size) && ANCP_ALIGNOF(type) == (align), #type " does not lie as in the library (#pragma pack?)")
+    ANCP_ASSERT(sizeof(type) == (size) && ANCP_ALIGNOF(type) == (align), \
+                #type " does not lie as in the library (#pragma pack?)")
 #define ANCP_FIELD_IS(type, field, at, size) \
-    ANCP_ASSERT(offsetof(type, field) == (at) && sizeof(((type *)0)->field) == (size), #type "." #field " does not lie as in the library")
+    ANCP_ASSERT(offsetof(type, field) == (at) && sizeof(((type *)0)->field) == (size), \
+                #type "." #field " does not lie as in the library")
 ANCP_LAYOUT(ANCP_STRUCT_IS, ANCP_FIELD_IS)
 
-/* ---- the tables' rows. Number 0, or the row is kept; what else may be wrong in a row a start tells (ANCP_BAD_START). */
+/* ---- the tables' rows. Number 0, or the row is kept; what else may be wrong in a row ancp_card_start_fault tells. */
 static inline ancp_number ancp_set_port(ancp_tables *t, size_t p, const void *id, size_t length) {
     uint8_t row[ANCP_ID_ROW] = {0};
     if (!t || !id) return ANCP_NULL;
@@ -202,22 +239,44 @@ enum {
 
 uint32_t ancp_card_version(void);
 
-ancp_started ancp_card_started(const uint8_t *ids, size_t ports, const uint32_t *channels, size_t channel_count,
-                               const uint32_t *entries, size_t entry_count, bool white_cac, bool add_cac, uint32_t first);
+/* 0 where a start takes the tables and the first number, and else 14 */
+uint8_t ancp_card_start_number(const uint8_t *ids, size_t ports, const uint32_t *channels, size_t channel_count,
+                               const uint32_t *entries, size_t entry_count, uint32_t first);
+
+/* The parts of a fresh card, written where they lie: a port's record, the pool's maps, the head. They are written over
+   parts that are valid, as zeros are. */
+void ancp_port_fresh_in(ancp_port *x);
+void ancp_pool_fresh_in(uint8_t *owner, uint8_t *channel, bool *charged, uint8_t *accounting);
+void ancp_head_fresh_in(ancp_head *head, size_t ports, size_t channel_count, size_t entry_count, bool white_cac,
+                        bool add_cac, uint32_t first);
+
+/* table 0 exactly where a start gives 0 */
+ancp_fault ancp_start_fault(const uint8_t *ids, size_t ports, const uint32_t *channels, size_t channel_count,
+                            const uint32_t *entries, size_t entry_count, uint32_t first);
 
 /* Any call: *core and the start of `reply` are written, nothing else; *call lies outside both. Nothing of the core is
    copied but one port's record and its head (counts, counter, switches). */
 ancp_answer ancp_card_call(ancp_core *core, const ancp_call *call, const uint8_t *ids, const uint32_t *channels,
                            const uint32_t *entries, const uint8_t *octets, size_t n, uint8_t *reply, size_t space);
 
-/* the readers take the core by value */
-bool ancp_card_up_in(ancp_core core, size_t p);
-uint32_t ancp_card_delegation_in(ancp_core core, size_t p);
-uint64_t ancp_card_committed_in(ancp_core core, const uint32_t *channels, size_t p);
-ancp_rows ancp_card_flows_in(ancp_core core, const uint32_t *channels, size_t p);
-bool ancp_card_active_in(ancp_core core, const uint32_t *channels, size_t p, ancp_flow f);
-size_t ancp_card_extras_in(ancp_core core);
-uint32_t ancp_card_next_in(ancp_core core);
+/* The readers are lent maps of the pool (owner, channel, charged, accounting) where they lie. x is the record of port
+   p, and any record where p is no port's. */
+bool ancp_card_up_in(ancp_port x, size_t port_count, size_t p);
+uint32_t ancp_card_delegation_in(ancp_port x, size_t port_count, size_t p);
+ancp_request ancp_card_request_in(ancp_port x, size_t port_count, size_t p);
+uint64_t ancp_card_committed_in(const uint8_t *owner, const uint8_t *channel, const bool *charged,
+                                const uint32_t *channels, size_t port_count, size_t p);
+ancp_rows ancp_card_flows_in(const uint8_t *owner, const uint8_t *channel, const uint32_t *channels, size_t port_count,
+                             size_t p);
+bool ancp_card_active_in(const uint8_t *owner, const uint8_t *channel, const uint32_t *channels, size_t port_count,
+                         size_t channel_count, size_t p, ancp_flow f);
+ancp_flow_state ancp_card_flow_in(const uint8_t *owner, const uint8_t *channel, const bool *charged,
+                                  const uint8_t *accounting, const uint32_t *channels, size_t port_count,
+                                  size_t channel_count, size_t p, ancp_flow f);
+ancp_flow_state ancp_card_row_in(const uint8_t *owner, const uint8_t *channel, const bool *charged,
+                                 const uint8_t *accounting, size_t port_count, size_t p, uint8_t k);
+size_t ancp_card_extras_in(const uint8_t *owner);
+uint32_t ancp_card_next_in(ancp_counter counter);
 
 /* ---- a restart
    An old grant must not answer a new question: a number that may have been sent must not be sent again, also not by the
@@ -229,12 +288,12 @@ uint32_t ancp_card_next_in(ancp_core core);
      ancp_numbers_left(ancp_card_next_transaction(&card), limit) is 0: store the limit moved on by a block, then call.
    The circle has 16,777,215 numbers; a restart skips those that are left. host/example.c does this with a file. */
 
-/* The number `by` places after `number`; after 16,777,215 comes 1. 0 where `number` is no transaction number (0, or above
-   16,777,215). */
+/* The number `by` places after `number`; after 16,777,215 comes 1. 0 where `number` is no transaction number (0, or
+   above 16,777,215). */
 uint32_t ancp_number_after(uint32_t number, uint32_t by);
 
-/* How many numbers from `number` on, around the circle, come before `limit`: 0 where they are equal, or where one of them
-   is no transaction number. */
+/* How many numbers from `number` on, around the circle, come before `limit`: 0 where they are equal, or where one of
+   them is no transaction number. */
 uint32_t ancp_numbers_left(uint32_t number, uint32_t limit);
 
 /* ---- pointers */
@@ -254,31 +313,34 @@ static inline ancp_number ancp_placed(const ancp_card *card, const ancp_tables *
 }
 
 /* `length` may be written, and is nothing else's */
-static inline ancp_number ancp_length_placed(const ancp_card *card, const ancp_tables *t, const uint8_t *octets, size_t n,
-                                             const uint8_t *reply, size_t space, const size_t *length) {
+static inline ancp_number ancp_length_placed(const ancp_card *card, const ancp_tables *t, const uint8_t *octets,
+                                             size_t n, const uint8_t *reply, size_t space, const size_t *length) {
     if ((uintptr_t)length % ANCP_ALIGNOF(size_t)) return ANCP_MISALIGNED;
-    if (ancp_overlap(length, sizeof *length, card, sizeof *card) || ancp_overlap(length, sizeof *length, t, sizeof *t) ||
-        (n && ancp_overlap(length, sizeof *length, octets, n)) || (space && ancp_overlap(length, sizeof *length, reply, space)))
+    if (ancp_overlap(length, sizeof *length, card, sizeof *card) ||
+        ancp_overlap(length, sizeof *length, t, sizeof *t) || (n && ancp_overlap(length, sizeof *length, octets, n)) ||
+        (space && ancp_overlap(length, sizeof *length, reply, space)))
         return ANCP_OVERLAP;
     return ANCP_DONE;
 }
 
 /* number 0, or what is wrong with a call's pointers; a message or a buffer of no octets may be NULL */
-static inline ancp_number ancp_buffers_placed(const ancp_card *card, const ancp_tables *t, const uint8_t *octets, size_t n,
-                                              const uint8_t *reply, size_t space) {
+static inline ancp_number ancp_buffers_placed(const ancp_card *card, const ancp_tables *t, const uint8_t *octets,
+                                              size_t n, const uint8_t *reply, size_t space) {
     ancp_number placed = ancp_placed(card, t);
     if (placed != ANCP_DONE) return placed;
     if ((n && !octets) || (space && !reply)) return ANCP_NULL;
     if (n && ancp_overlap(card, sizeof *card, octets, n)) return ANCP_OVERLAP;
-    if (space && (ancp_overlap(card, sizeof *card, reply, space) || ancp_overlap(t, sizeof *t, reply, space))) return ANCP_OVERLAP;
+    if (space && (ancp_overlap(card, sizeof *card, reply, space) || ancp_overlap(t, sizeof *t, reply, space)))
+        return ANCP_OVERLAP;
     if (n && space && ancp_overlap(octets, n, reply, space)) return ANCP_OVERLAP;
     return card->started == ANCP_STARTED ? ANCP_DONE : ANCP_NOT_STARTED;
 }
 
-/* ---- for the host. Each call updates *card and returns its number; `length`, if it is not NULL, gets how many octets of
-   reply are written, and beyond them the buffer is kept. Numbers 1, 3 to 16 and those from 100 on keep card and buffer. */
-static inline ancp_number ancp_calls(ancp_card *card, const ancp_tables *t, const ancp_call *call, const uint8_t *octets,
-                                     size_t n, uint8_t *reply, size_t space, size_t *length) {
+/* ---- for the host. Each call updates *card and returns its number; `length`, if it is not NULL, gets how many octets
+   of reply are written, and beyond them the buffer is kept. Numbers 1, 3 to 16 and those from 100 on keep card and
+   buffer. */
+static inline ancp_number ancp_calls(ancp_card *card, const ancp_tables *t, const ancp_call *call,
+                                     const uint8_t *octets, size_t n, uint8_t *reply, size_t space, size_t *length) {
     uint8_t none = 0;
     ancp_answer answer;
     ancp_number placed;
@@ -290,7 +352,9 @@ static inline ancp_number ancp_calls(ancp_card *card, const ancp_tables *t, cons
     placed = ancp_buffers_placed(card, t, octets, n, reply, space);
     if (placed != ANCP_DONE) return placed;
     if (!call) return ANCP_NULL;
-    answer = ancp_card_call(&card->core, call, t->ids, t->channels, t->entries, n ? octets : &none, n, space ? reply : &none, space);
+    answer = ancp_card_call(&card->core, call, t->ids, t->channels, t->entries, n ? octets : &none, n,
+                            space ? reply : &none, space);
+    card->core.head.unused = 0; /* the head is written whole */
     if (length) *length = answer.length;
     return (ancp_number)answer.number;
 }
@@ -304,33 +368,50 @@ static inline void ancp_call_of(ancp_call *call, uint8_t which, size_t p, uint32
 }
 
 /* a call about a port alone, and one about a flow of it */
-static inline ancp_number ancp_call_on_port(ancp_card *card, const ancp_tables *t, uint8_t which, size_t p, uint32_t amount) {
+static inline ancp_number ancp_call_on_port(ancp_card *card, const ancp_tables *t, uint8_t which, size_t p,
+                                            uint32_t amount) {
     ancp_call call;
     ancp_call_of(&call, which, p, amount, 0);
     return ancp_calls(card, t, &call, NULL, 0, NULL, 0, NULL);
 }
-static inline ancp_number ancp_call_on_flow(ancp_card *card, const ancp_tables *t, uint8_t which, size_t p, const ancp_flow *f,
-                                            uint8_t *reply, size_t space, size_t *length) {
+static inline ancp_number ancp_call_on_flow(ancp_card *card, const ancp_tables *t, uint8_t which, size_t p,
+                                            const ancp_flow *f, uint8_t *reply, size_t space, size_t *length) {
     ancp_call call;
     ancp_call_of(&call, which, p, 0, 0);
     if (f) memcpy(&call.flow, f, sizeof call.flow);
     return ancp_calls(card, t, f ? &call : NULL, NULL, 0, reply, space, length);
 }
 
-/* Takes the tables, or answers ANCP_BAD_START and leaves *card as it was; what *card held before is not read. */
-static inline ancp_number ancp_card_start(ancp_card *card, const ancp_tables *t, size_t ports, size_t channels, size_t entries,
-                                          bool white_cac, bool add_cac, uint32_t first) {
-    ancp_started s;
+/* A fresh card, written where it lies. */
+static inline void ancp_card_fresh(ancp_card *card, size_t ports, size_t channels, size_t entries, bool white_cac,
+                                   bool add_cac, uint32_t first) {
+    ancp_pool *pool = &card->core.pool;
+    memset(card, 0, sizeof *card);
+    for (size_t p = 0; p < ANCP_PORTS; p++) ancp_port_fresh_in(&card->core.ports[p]);
+    ancp_pool_fresh_in(pool->owner, pool->channel, pool->charged, pool->accounting);
+    ancp_head_fresh_in(&card->core.head, ports, channels, entries, white_cac, add_cac, first);
+    card->started = ANCP_STARTED;
+}
+
+/* Takes the tables, or answers ANCP_BAD_START (ancp_card_start_fault tells why) and leaves *card as it was; what *card
+   held before is not read. */
+static inline ancp_number ancp_card_start(ancp_card *card, const ancp_tables *t, size_t ports, size_t channels,
+                                          size_t entries, bool white_cac, bool add_cac, uint32_t first) {
+    uint8_t number;
     ancp_number placed = ancp_placed(card, t);
     if (placed != ANCP_DONE) return placed;
     if (ancp_card_version() != ANCP_VERSION_NUMBER) return ANCP_OTHER_VERSION;
-    s = ancp_card_started(t->ids, ports, t->channels, channels, t->entries, entries, white_cac, add_cac, first);
-    if (s.number != ANCP_DONE) return (ancp_number)s.number;
-    card->core = s.core;
-    for (size_t p = 0; p < ANCP_PORTS; p++) card->core.ports[p].unused = 0;
-    card->core.head.unused = 0;
-    card->started = ANCP_STARTED;
-    return ANCP_DONE;
+    number = ancp_card_start_number(t->ids, ports, t->channels, channels, t->entries, entries, first);
+    if (number == ANCP_DONE) ancp_card_fresh(card, ports, channels, entries, white_cac, add_cac, first);
+    return (ancp_number)number;
+}
+
+/* The number that a start with these tables gives, and in *fault why: its table is ANCP_TABLE_NONE with ANCP_DONE. */
+static inline ancp_number ancp_card_start_fault(ancp_fault *fault, const ancp_tables *t, size_t ports, size_t channels,
+                                                size_t entries, uint32_t first) {
+    if (!fault || !t) return ANCP_NULL;
+    *fault = ancp_start_fault(t->ids, ports, t->channels, channels, t->entries, entries, first);
+    return fault->table == ANCP_TABLE_NONE ? ANCP_DONE : ANCP_BAD_START;
 }
 
 /* The port is up; its flows and an open request stay if it was up already. */
@@ -348,10 +429,10 @@ static inline ancp_number ancp_card_set_delegation(ancp_card *card, const ancp_t
     return ancp_call_on_port(card, t, ANCP_CALL_DELEGATION, p, amount);
 }
 
-/* A white flow begins if there is room and, under White-List-CAC, its rate fits; for a grey one (ANCP_GREY) a message to
-   the server is written. */
-static inline ancp_number ancp_card_join(ancp_card *card, const ancp_tables *t, size_t p, const ancp_flow *f, uint8_t *reply,
-                                         size_t space, size_t *length) {
+/* A white flow begins if there is room and, under White-List-CAC, its rate fits; for a grey one (ANCP_GREY) a message
+   to the server is written. */
+static inline ancp_number ancp_card_join(ancp_card *card, const ancp_tables *t, size_t p, const ancp_flow *f,
+                                         uint8_t *reply, size_t space, size_t *length) {
     return ancp_call_on_flow(card, t, ANCP_CALL_JOIN, p, f, reply, space, length);
 }
 
@@ -361,8 +442,8 @@ static inline ancp_number ancp_card_leave(ancp_card *card, const ancp_tables *t,
 }
 
 /* Writes a request for bandwidth (146) to the server, which is then open. */
-static inline ancp_number ancp_card_ask(ancp_card *card, const ancp_tables *t, size_t p, uint32_t required, uint32_t preferred,
-                                        uint8_t *reply, size_t space, size_t *length) {
+static inline ancp_number ancp_card_ask(ancp_card *card, const ancp_tables *t, size_t p, uint32_t required,
+                                        uint32_t preferred, uint8_t *reply, size_t space, size_t *length) {
     ancp_call call;
     ancp_call_of(&call, ANCP_CALL_ASK, p, required, preferred);
     return ancp_calls(card, t, &call, NULL, 0, reply, space, length);
@@ -376,31 +457,79 @@ static inline ancp_number ancp_card_message(ancp_card *card, const ancp_tables *
     return ancp_calls(card, t, &call, octets, n, reply, space, length);
 }
 
-/* ---- what a host may read. Of a number that is no port's, and of what is no started card: down, 0, no flows. */
+/* ---- what a host may read, where the card lies. Of a number that is no port's, and of what is no started card: down,
+   0, no request, no flows. */
 static inline bool ancp_card_is_started(const ancp_card *card) {
     return card && (uintptr_t)card % ANCP_ALIGNOF(ancp_card) == 0 && card->started == ANCP_STARTED;
 }
+static inline ancp_port ancp_port_of(const ancp_card *card, size_t p) {
+    return card->core.ports[p < ANCP_PORTS ? p : 0];
+}
+
 static inline bool ancp_card_is_up(const ancp_card *card, size_t p) {
-    return ancp_card_is_started(card) && ancp_card_up_in(card->core, p);
+    return ancp_card_is_started(card) && ancp_card_up_in(ancp_port_of(card, p), card->core.head.port_count, p);
 }
 static inline uint32_t ancp_card_delegation(const ancp_card *card, size_t p) {
-    return ancp_card_is_started(card) ? ancp_card_delegation_in(card->core, p) : 0;
+    return ancp_card_is_started(card) ? ancp_card_delegation_in(ancp_port_of(card, p), card->core.head.port_count, p)
+                                      : 0;
 }
+
+/* The request for bandwidth that is open. */
+static inline ancp_request ancp_card_request(const ancp_card *card, size_t p) {
+    ancp_request none = {false, {0}, 0, 0, 0};
+    return ancp_card_is_started(card) ? ancp_card_request_in(ancp_port_of(card, p), card->core.head.port_count, p)
+                                      : none;
+}
+
+/* The rates of the port's charged flows, in all. */
 static inline uint64_t ancp_card_committed(const ancp_card *card, const ancp_tables *t, size_t p) {
-    return ancp_card_is_started(card) && t ? ancp_card_committed_in(card->core, t->channels, p) : 0;
+    if (!ancp_card_is_started(card) || !t) return 0;
+    const ancp_pool *pool = &card->core.pool;
+    return ancp_card_committed_in(pool->owner, pool->channel, pool->charged, t->channels, card->core.head.port_count,
+                                  p);
 }
+
+/* The channels of the port's active flows, in order of family, group, source. */
 static inline ancp_rows ancp_card_flows(const ancp_card *card, const ancp_tables *t, size_t p) {
     ancp_rows none = {0, {0}};
-    return ancp_card_is_started(card) && t ? ancp_card_flows_in(card->core, t->channels, p) : none;
+    if (!ancp_card_is_started(card) || !t) return none;
+    return ancp_card_flows_in(card->core.pool.owner, card->core.pool.channel, t->channels, card->core.head.port_count,
+                              p);
 }
 static inline bool ancp_card_is_active(const ancp_card *card, const ancp_tables *t, size_t p, const ancp_flow *f) {
-    return ancp_card_is_started(card) && t && f && ancp_card_active_in(card->core, t->channels, p, *f);
+    if (!ancp_card_is_started(card) || !t || !f) return false;
+    const ancp_core *core = &card->core;
+    return ancp_card_active_in(core->pool.owner, core->pool.channel, t->channels, core->head.port_count,
+                               core->head.channel_count, p, *f);
 }
+
+/* Charge and accounting of a flow on the port: of a flow by value, and of one by its channel, as ancp_card_flows lists
+   them. */
+static inline ancp_flow_state ancp_card_flow(const ancp_card *card, const ancp_tables *t, size_t p,
+                                             const ancp_flow *f) {
+    ancp_flow_state none = {false, false, 0};
+    if (!ancp_card_is_started(card) || !t || !f) return none;
+    const ancp_pool *pool = &card->core.pool;
+    const ancp_head *head = &card->core.head;
+    return ancp_card_flow_in(pool->owner, pool->channel, pool->charged, pool->accounting, t->channels, head->port_count,
+                             head->channel_count, p, *f);
+}
+static inline ancp_flow_state ancp_card_flow_of_row(const ancp_card *card, size_t p, uint8_t k) {
+    ancp_flow_state none = {false, false, 0};
+    if (!ancp_card_is_started(card)) return none;
+    const ancp_pool *pool = &card->core.pool;
+    return ancp_card_row_in(pool->owner, pool->channel, pool->charged, pool->accounting, card->core.head.port_count, p,
+                            k);
+}
+
+/* How many flows beyond their port's fourth there are. */
 static inline size_t ancp_card_extras(const ancp_card *card) {
-    return ancp_card_is_started(card) ? ancp_card_extras_in(card->core) : 0;
+    return ancp_card_is_started(card) ? ancp_card_extras_in(card->core.pool.owner) : 0;
 }
+
+/* The transaction number of the next message that the card begins. */
 static inline uint32_t ancp_card_next_transaction(const ancp_card *card) {
-    return ancp_card_is_started(card) ? ancp_card_next_in(card->core) : 0;
+    return ancp_card_is_started(card) ? ancp_card_next_in(card->core.head.counter) : 0;
 }
 
 #ifdef __cplusplus

@@ -101,7 +101,7 @@ impl Pair {
         self.compare_record(port, &rows)
     }
 
-    /// What no reader gives: the open request, and each flow's accounting and charge.
+    /// The open request, and each flow's accounting and charge.
     fn compare_record(&self, port: usize, rows: &[u8]) -> Result<(), String> {
         let of = |what: &str| format!("{what} of port {port}");
         same(&of("request"), self.card.request(port), self.proved.request(port))?;

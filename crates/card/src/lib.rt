@@ -1,4 +1,4 @@
-// The card: start; port up, port down, set delegation and leave, each on its parts; what a host may read.
+// The card: start; port up, port down, set delegation and leave, each on its parts.
 use flows::Flow;
 use pool::Pool;
 use ports::Change;
@@ -9,12 +9,11 @@ ghost use mathlib.Core.Bool.{Bool, true};
 ghost use mathlib.Core.List.{List};
 ghost use Prim.Native.Nat.{ℕ, _<_};
 ghost use lib.ListN.{length};
-ghost use Rattle.pool.specs.Pool.{extrasOf, poolOf, withOwner};
+ghost use Rattle.pool.specs.Pool.{poolOf, withOwner};
 ghost use Rattle.card.specs.Cards.{Areas, noAreas, isPort, cardOf};
 ghost use Rattle.card.specs.Calls.{portUpOf, portDownOf, setDelegationOf, leaveOf};
 ghost use Rattle.card.specs.Parts.{doneWith, returnedOf, ComesTo};
 ghost use Rattle.card.specs.Start.{freshCore, firstOk, startOf, StartGives};
-ghost use Rattle.card.specs.Figures.{upOf, delegationOf, committedAt};
 
 // The head: all that is neither a port's nor a flow record's. It goes through every call whole, so that a number more
 // in it touches no function that hands it on.
@@ -86,6 +85,46 @@ pub fn start(
 ) -> Fresh
     ensures { λ r. ⌜ StartGives (startOf (now (ids .entry)) «port_count» (now (channels .entry)) «channel_count» (now (entries .entry)) «entry_count» «white_cac» «add_cac» first) r noAreas noAreas ⌝ }
 {
+    let number = start_number(
+        ids,
+        port_count,
+        channels,
+        channel_count,
+        entries,
+        entry_count,
+        first,
+    );
+    if number == 0 {
+        return Fresh {
+            core: fresh_core(
+                port_count,
+                channel_count,
+                entry_count,
+                white_cac,
+                add_cac,
+                first,
+            ),
+            number: 0,
+        };
+    }
+    Fresh {
+        core: fresh_core(0, 0, 0, false, false, 1),
+        number: 14,
+    }
+}
+
+// The number of a start, whatever its switches: 0, or 14.
+pub fn start_number(
+    ids: &[u8; 4096],
+    port_count: usize,
+    channels: &[u32; 2816],
+    channel_count: usize,
+    entries: &[u32; 1536],
+    entry_count: usize,
+    first: u32,
+) -> u8
+    ensures { λ r. ⌜ ((white add : Bool) → r ≡ startOf (now (ids .entry)) «port_count» (now (channels .entry)) «channel_count» (now (entries .entry)) «entry_count» white add first .number) ⌝ }
+{
     if !tables::tables_ok(
         ids,
         port_count,
@@ -94,28 +133,12 @@ pub fn start(
         entries,
         entry_count,
     ) {
-        return Fresh {
-            core: fresh_core(0, 0, 0, false, false, 1),
-            number: 14,
-        };
+        return 14;
     }
     if !first_ok(first) {
-        return Fresh {
-            core: fresh_core(0, 0, 0, false, false, 1),
-            number: 14,
-        };
+        return 14;
     }
-    Fresh {
-        core: fresh_core(
-            port_count,
-            channel_count,
-            entry_count,
-            white_cac,
-            add_cac,
-            first,
-        ),
-        number: 0,
-    }
+    0
 }
 
 fn fresh_core(
@@ -145,7 +168,7 @@ fn fresh_core(
     }
 }
 
-fn first_ok(first: u32) -> bool
+pub fn first_ok(first: u32) -> bool
     ensures { λ r. ⌜ r ≡ firstOk first ⌝ }
 {
     if first < 1 {
@@ -292,52 +315,4 @@ pub fn leave_in(
         return unchanged(terms, 0);
     }
     unchanged(terms, 10)
-}
-
-// ---- what a host may read
-
-pub fn is_up(core: Core, p: usize) -> bool
-    ensures { λ r. ⌜ ((areas : Areas) → r ≡ upOf (cardOf core areas) p) ⌝ }
-{
-    if !is_port(core.head.port_count, p) {
-        return false;
-    }
-    let x = core.ports[p];
-    x.up
-}
-
-pub fn delegation(core: Core, p: usize) -> u32
-    ensures { λ r. ⌜ ((areas : Areas) → r ≡ delegationOf (cardOf core areas) p) ⌝ }
-{
-    if !is_port(core.head.port_count, p) {
-        return 0;
-    }
-    let x = core.ports[p];
-    x.delegation
-}
-
-pub fn committed(core: Core, channels: &[u32; 2816], p: usize) -> u64
-    ensures { λ r. ⌜ ((areas : Areas) → r ≡ committedAt (now (channels .entry)) (cardOf core areas) p) ⌝ }
-{
-    if !is_port(core.head.port_count, p) {
-        return 0;
-    }
-    let pool = core.pool;
-    pool::committed_of(channels, &pool.owner, &pool.channel, &pool.charged, p as u8)
-}
-
-pub fn extras(core: Core) -> usize
-    ensures { λ r. ⌜ r ≡ extrasOf (core .pool) ⌝ }
-{
-    let pool = core.pool;
-    pool::extras_of(&pool.owner)
-}
-
-// The number that the next message takes: a host that stores it can start again after it.
-pub fn next_transaction(core: Core) -> u32
-    ensures { λ r. ⌜ r ≡ core .head .counter .number ⌝ }
-{
-    let head = core.head;
-    let counter = head.counter;
-    counter.number
 }

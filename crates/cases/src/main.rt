@@ -159,11 +159,30 @@ fn started(t: Tables, first: u32, ports: usize) -> card::Fresh {
     card::start(&ids, ports, &channels, 20, &entries, 3, true, false, first)
 }
 
+fn say_extras(core: Core) {
+    let pool = core.pool;
+    say(b"extras", pool::extras_of(&pool.owner) as u64);
+}
+
+fn say_next(core: Core) {
+    let head = core.head;
+    let counter = head.counter;
+    say(b"next", counter.number as u64);
+}
+
 fn figures(core: Core, t: Tables, p: usize) {
     let channels = t.channels;
-    say(b"committed", card::committed(core, &channels, p));
-    say(b"delegation", card::delegation(core, p) as u64);
-    say(b"extras", card::extras(core) as u64);
+    let pool = core.pool;
+    let table = core.ports;
+    let at = card::slot(p);
+    let x = table[at];
+    let n = core.head.port_count;
+    say(
+        b"committed",
+        readers::committed(&pool.owner, &pool.channel, &pool.charged, &channels, n, p),
+    );
+    say(b"delegation", readers::delegation(x, n, p) as u64);
+    say_extras(core);
 }
 
 // Delegation 4000, committed 3000: rate 1000 starts, 1001 gives 4; and the other numbers of join and leave.
@@ -211,12 +230,12 @@ fn room(t: Tables) {
     c = join(b"a 17th flow", c, t, 0, 16);
     c = fill_ports(c, t, 32);
     c = fill(c, t, 33, 3);
-    say(b"extras", card::extras(c) as u64);
+    say_extras(c);
     c = join(b"a fourth flow", c, t, 33, 3);
     c = join(b"a fifth flow", c, t, 33, 4);
     c = leave(b"leave on another port", c, t, 1, flow(0));
     c = join(b"a fifth flow at 255 extras", c, t, 33, 4);
-    say(b"extras", card::extras(c) as u64);
+    say_extras(c);
 }
 
 // Transaction 16,777,215 is followed by 1; and the numbers of ask and start.
@@ -225,13 +244,13 @@ fn transactions(t: Tables) {
     let mut c = s.core;
     c = opened(c, t, 0, 100);
     c = opened(c, t, 1, 100);
-    say(b"next", card::next_transaction(c) as u64);
+    say_next(c);
     c = ask(b"ask for what is there", c, t, 0, 100);
     c = ask(b"ask", c, t, 0, 101);
-    say(b"next", card::next_transaction(c) as u64);
+    say_next(c);
     c = ask(b"ask again", c, t, 0, 101);
     c = ask(b"ask on another port", c, t, 1, 101);
-    say(b"next", card::next_transaction(c) as u64);
+    say_next(c);
     let asked = calls::on_port(calls::ASK, 1, 101, 200);
     c = cramped(b"ask with a small buffer", c, t, asked);
     let told = calls::on_port(calls::MESSAGE, 0, 0, 0);
@@ -240,7 +259,7 @@ fn transactions(t: Tables) {
     say(b"start with transaction 0", none.number as u64);
     let many = started(t, 1, 65);
     say(b"start with 65 ports", many.number as u64);
-    say(b"next", card::next_transaction(c) as u64);
+    say_next(c);
 }
 
 // A call with a reply buffer that is one octet too small; its octets are a Delegated Bandwidth Query (148) for port 1.

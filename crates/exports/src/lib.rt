@@ -1,46 +1,127 @@
-// The card for a host in C. The start gives a card; one function carries out any call on the card where the host keeps it; the readers take
-// the card by value. include/ancp_card.h puts a name for each call above them.
+// The card for a host in C. A start writes a fresh card where the host keeps it; one function carries out any call on the card there; the
+// readers are lent its parts. include/ancp_card.h puts a name for each call above them.
 use calls::HostCall;
+use card::CardHead;
 use card::Core;
-use card::Fresh;
+use faults::Fault;
 use flows::Flow;
+use pool::FlowState;
 use pool::Rows;
+use ports::Counter;
+use ports::Port;
+use readers::Request;
 ghost use mathlib.Core.Path.{_≡_};
+ghost use mathlib.Core.Bool.{Bool};
 ghost use mathlib.Core.List.{List};
 ghost use Prim.Native.Nat.{ℕ};
-ghost use Rattle.card.specs.Cards.{Areas, noAreas, cardOf};
-ghost use Rattle.pool.specs.Pool.{extrasOf, asRows};
-ghost use Rattle.card.specs.Start.{startOf, StartGives};
+ghost use lib.Dec.{eqb};
+ghost use Rattle.card.specs.Cards.{Card, noAreas, cardOf, withPool};
+ghost use Rattle.card.specs.Start.{startOf, freshCore};
 ghost use Rattle.card.specs.Figures.{upOf, delegationOf, committedAt};
+ghost use Rattle.ports.specs.Ports.{freshPort};
+ghost use Rattle.pool.specs.Pool.{extrasIn, freshPool, asRows, poolOf};
 ghost use Rattle.listing.specs.Listing.{flowsAt, activeAt};
+ghost use Rattle.readers.specs.Readers.{HasRecord, requestOf, rowStateAt, flowStateAt};
+ghost use Rattle.faults.specs.Faults.{Names, startChecks};
 ghost use Rattle.numbers.specs.Numbers.{afterOf, Counted};
 ghost use Rattle.exports.specs.Answers.{CallDoes};
 
 // ---- start
 
+// 0 where start takes the tables and the first number, and else 14.
 #[no_mangle]
-pub extern "C" fn ancp_card_started(
+pub extern "C" fn ancp_card_start_number(
     ids: &[u8; 4096],
     ports: usize,
     channels: &[u32; 2816],
     channel_count: usize,
     entries: &[u32; 1536],
     entry_count: usize,
-    white_cac: bool,
-    add_cac: bool,
     first: u32,
-) -> Fresh
-    ensures { λ r. ⌜ StartGives (startOf (now (ids .entry)) ports (now (channels .entry)) «channel_count» (now (entries .entry)) «entry_count» «white_cac» «add_cac» first) r noAreas noAreas ⌝ }
+) -> u8
+    ensures { λ r. ⌜ ((white add : Bool) → r ≡ startOf (now (ids .entry)) ports (now (channels .entry)) «channel_count» (now (entries .entry)) «entry_count» white add first .number) ⌝ }
 {
-    card::start(
+    card::start_number(
         ids,
         ports,
         channels,
         channel_count,
         entries,
         entry_count,
-        white_cac,
-        add_cac,
+        first,
+    )
+}
+
+// A fresh core, part by part where the host keeps it: each of the 64 records, the pool's maps, and the head. Only fields
+// are written.
+#[no_mangle]
+pub extern "C" fn ancp_port_fresh_in(x: &mut Port)
+    ensures { λ _. ⌜ now (x .exit) ≡ freshPort ⌝ }
+{
+    x.up = false;
+    x.delegation = 0;
+    x.asking = false;
+    x.required = 0;
+    x.preferred = 0;
+    x.transaction = 0;
+}
+
+#[no_mangle]
+pub extern "C" fn ancp_pool_fresh_in(
+    owner: &mut [u8; 512],
+    channel: &mut [u8; 512],
+    charged: &mut [bool; 512],
+    accounting: &mut [u8; 512],
+)
+    ensures { λ _. ⌜ poolOf (now (owner .exit)) (now (channel .exit)) (now (charged .exit)) (now (accounting .exit)) ≡ freshPool ⌝ }
+{
+    *owner = [pool::FREE; 512];
+    *channel = [0u8; 512];
+    *charged = [false; 512];
+    *accounting = [0u8; 512];
+}
+
+#[no_mangle]
+pub extern "C" fn ancp_head_fresh_in(
+    head: &mut CardHead,
+    ports: usize,
+    channel_count: usize,
+    entry_count: usize,
+    white_cac: bool,
+    add_cac: bool,
+    first: u32,
+)
+    ensures { λ _. ⌜ now (head .exit) ≡ freshCore ports «channel_count» «entry_count» «white_cac» «add_cac» first .head ⌝ }
+{
+    head.port_count = ports;
+    head.channel_count = channel_count;
+    head.entry_count = entry_count;
+    head.counter.number = first;
+    head.white_cac = white_cac;
+    head.add_cac = add_cac;
+}
+
+// Why a start is refused: the first test that fails. Its table is 0 where the start is taken.
+#[no_mangle]
+pub extern "C" fn ancp_start_fault(
+    ids: &[u8; 4096],
+    ports: usize,
+    channels: &[u32; 2816],
+    channel_count: usize,
+    entries: &[u32; 1536],
+    entry_count: usize,
+    first: u32,
+) -> Fault
+    ensures names { λ r. ⌜ Names (startChecks (now (ids .entry)) ports (now (channels .entry)) «channel_count» (now (entries .entry)) «entry_count» first) r ⌝ }
+    ensures none { λ r. ⌜ ((white add : Bool) → eqb (r .table) 0 ≡ eqb (startOf (now (ids .entry)) ports (now (channels .entry)) «channel_count» (now (entries .entry)) «entry_count» white add first .number) 0) ⌝ }
+{
+    faults::start_fault(
+        ids,
+        ports,
+        channels,
+        channel_count,
+        entries,
+        entry_count,
         first,
     )
 }
@@ -97,55 +178,127 @@ pub extern "C" fn ancp_card_call(
     }
 }
 
-// ---- what a host may read
+// ---- what a host may read, of the parts that a reader is lent
 
 #[no_mangle]
-pub extern "C" fn ancp_card_up_in(core: Core, p: usize) -> bool
-    ensures { λ r. ⌜ ((areas : Areas) → r ≡ upOf (cardOf core areas) p) ⌝ }
+pub extern "C" fn ancp_card_up_in(x: Port, port_count: usize, p: usize) -> bool
+    ensures { λ r. ⌜ ((card : Card) → HasRecord card «port_count» p x → r ≡ upOf card p) ⌝ }
 {
-    card::is_up(core, p)
+    readers::is_up(x, port_count, p)
 }
 
 #[no_mangle]
-pub extern "C" fn ancp_card_delegation_in(core: Core, p: usize) -> u32
-    ensures { λ r. ⌜ ((areas : Areas) → r ≡ delegationOf (cardOf core areas) p) ⌝ }
+pub extern "C" fn ancp_card_delegation_in(x: Port, port_count: usize, p: usize) -> u32
+    ensures { λ r. ⌜ ((card : Card) → HasRecord card «port_count» p x → r ≡ delegationOf card p) ⌝ }
 {
-    card::delegation(core, p)
+    readers::delegation(x, port_count, p)
 }
 
 #[no_mangle]
-pub extern "C" fn ancp_card_committed_in(core: Core, channels: &[u32; 2816], p: usize) -> u64
-    ensures { λ r. ⌜ ((areas : Areas) → r ≡ committedAt (now (channels .entry)) (cardOf core areas) p) ⌝ }
+pub extern "C" fn ancp_card_request_in(x: Port, port_count: usize, p: usize) -> Request
+    ensures { λ r. ⌜ ((card : Card) → HasRecord card «port_count» p x → r ≡ requestOf card p) ⌝ }
 {
-    card::committed(core, channels, p)
+    readers::open_request(x, port_count, p)
 }
 
 #[no_mangle]
-pub extern "C" fn ancp_card_flows_in(core: Core, channels: &[u32; 2816], p: usize) -> Rows
-    ensures { λ r. ⌜ ((areas : Areas) → r ≡ asRows (flowsAt (now (channels .entry)) (cardOf core areas) p)) ⌝ }
+pub extern "C" fn ancp_card_committed_in<'a>(
+    owner: &'a [u8; 512],
+    channel: &'a [u8; 512],
+    charged: &'a [bool; 512],
+    channels: &[u32; 2816],
+    port_count: usize,
+    p: usize,
+) -> u64
+    ensures { λ r. ⌜ ((card : Card) (accounting : List ℕ) → card .head .«port_count» ≡ «port_count» → r ≡ committedAt (now (channels .entry)) (withPool card (poolOf (now (owner .entry)) (now (channel .entry)) (now (charged .entry)) accounting)) p) ⌝ }
 {
-    listing::flows_of(core, channels, p)
+    readers::committed(owner, channel, charged, channels, port_count, p)
 }
 
 #[no_mangle]
-pub extern "C" fn ancp_card_active_in(core: Core, channels: &[u32; 2816], p: usize, f: Flow) -> bool
-    ensures { λ r. ⌜ ((areas : Areas) → r ≡ activeAt (now (channels .entry)) (cardOf core areas) p f) ⌝ }
+pub extern "C" fn ancp_card_flows_in<'a>(
+    owner: &'a [u8; 512],
+    channel: &'a [u8; 512],
+    channels: &[u32; 2816],
+    port_count: usize,
+    p: usize,
+) -> Rows
+    ensures { λ r. ⌜ ((card : Card) (charged : List Bool) (accounting : List ℕ) → card .head .«port_count» ≡ «port_count» → r ≡ asRows (flowsAt (now (channels .entry)) (withPool card (poolOf (now (owner .entry)) (now (channel .entry)) charged accounting)) p)) ⌝ }
 {
-    listing::is_active(core, channels, p, f)
+    readers::flows_of(owner, channel, channels, port_count, p)
 }
 
 #[no_mangle]
-pub extern "C" fn ancp_card_extras_in(core: Core) -> usize
-    ensures { λ r. ⌜ r ≡ extrasOf (core .pool) ⌝ }
+pub extern "C" fn ancp_card_active_in<'a>(
+    owner: &'a [u8; 512],
+    channel: &'a [u8; 512],
+    channels: &[u32; 2816],
+    port_count: usize,
+    channel_count: usize,
+    p: usize,
+    f: Flow,
+) -> bool
+    ensures { λ r. ⌜ ((card : Card) (charged : List Bool) (accounting : List ℕ) → card .head .«port_count» ≡ «port_count» → card .head .«channel_count» ≡ «channel_count» → r ≡ activeAt (now (channels .entry)) (withPool card (poolOf (now (owner .entry)) (now (channel .entry)) charged accounting)) p f) ⌝ }
 {
-    card::extras(core)
+    readers::is_active(owner, channel, channels, port_count, channel_count, p, f)
 }
 
 #[no_mangle]
-pub extern "C" fn ancp_card_next_in(core: Core) -> u32
-    ensures { λ r. ⌜ r ≡ core .head .counter .number ⌝ }
+pub extern "C" fn ancp_card_flow_in<'a>(
+    owner: &'a [u8; 512],
+    channel: &'a [u8; 512],
+    charged: &'a [bool; 512],
+    accounting: &'a [u8; 512],
+    channels: &[u32; 2816],
+    port_count: usize,
+    channel_count: usize,
+    p: usize,
+    f: Flow,
+) -> FlowState
+    ensures state { λ r. ⌜ ((card : Card) → card .head .«port_count» ≡ «port_count» → card .head .«channel_count» ≡ «channel_count» → r ≡ flowStateAt (now (channels .entry)) (withPool card (poolOf (now (owner .entry)) (now (channel .entry)) (now (charged .entry)) (now (accounting .entry)))) p f) ⌝ }
+    ensures active { λ r. ⌜ ((card : Card) → card .head .«port_count» ≡ «port_count» → card .head .«channel_count» ≡ «channel_count» → r .active ≡ activeAt (now (channels .entry)) (withPool card (poolOf (now (owner .entry)) (now (channel .entry)) (now (charged .entry)) (now (accounting .entry)))) p f) ⌝ }
 {
-    card::next_transaction(core)
+    readers::flow_state(
+        owner,
+        channel,
+        charged,
+        accounting,
+        channels,
+        port_count,
+        channel_count,
+        p,
+        f,
+    )
+}
+
+#[no_mangle]
+pub extern "C" fn ancp_card_row_in<'a>(
+    owner: &'a [u8; 512],
+    channel: &'a [u8; 512],
+    charged: &'a [bool; 512],
+    accounting: &'a [u8; 512],
+    port_count: usize,
+    p: usize,
+    k: u8,
+) -> FlowState
+    ensures { λ r. ⌜ ((card : Card) → card .head .«port_count» ≡ «port_count» → r ≡ rowStateAt (withPool card (poolOf (now (owner .entry)) (now (channel .entry)) (now (charged .entry)) (now (accounting .entry)))) p k) ⌝ }
+{
+    readers::row_state(owner, channel, charged, accounting, port_count, p, k)
+}
+
+#[no_mangle]
+pub extern "C" fn ancp_card_extras_in(owner: &[u8; 512]) -> usize
+    ensures { λ r. ⌜ r ≡ extrasIn (now (owner .entry)) ⌝ }
+{
+    pool::extras_of(owner)
+}
+
+// The number that the next message takes: a host that stores it can start again after it.
+#[no_mangle]
+pub extern "C" fn ancp_card_next_in(counter: Counter) -> u32
+    ensures { λ r. ⌜ r ≡ counter .number ⌝ }
+{
+    counter.number
 }
 
 // ---- the circle of transaction numbers, for a restart

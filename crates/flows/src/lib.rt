@@ -66,13 +66,13 @@ pub fn known_family(family: u32) -> bool
     family == IPV4 || family == IPV6
 }
 
-fn good_group(family: u32, group: [u32; 4]) -> bool
+pub fn good_group(family: u32, group: [u32; 4]) -> bool
     ensures { λ r. ⌜ r ≡ goodGroup family group ⌝ }
 {
     is_group(family, group) && in_width(family, group)
 }
 
-fn good_source(family: u32, sourced: u32, source: [u32; 4]) -> bool
+pub fn good_source(family: u32, sourced: u32, source: [u32; 4]) -> bool
     ensures { λ r. ⌜ r ≡ goodSource family sourced source ⌝ }
 {
     if sourced == 0 {

@@ -4,11 +4,14 @@ use calls::HostCall;
 use card::CardHead;
 use card::Core;
 use exports::Answer;
+use faults::Fault;
 use flows::Flow;
+use pool::FlowState;
 use pool::Pool;
 use pool::Rows;
 use ports::Counter;
 use ports::Port;
+use readers::Request;
 ghost use mathlib.Core.Path.{_≡_};
 ghost use lib.ListN.{replicate};
 
@@ -118,4 +121,39 @@ pub extern "C" fn layout_rows(count: usize, row: u8) -> Rows
         count,
         rows: [row; 16],
     }
+}
+
+#[no_mangle]
+pub extern "C" fn layout_request(
+    asking: bool,
+    required: u32,
+    preferred: u32,
+    transaction: u32,
+) -> Request
+    ensures { λ r. ⌜ r ≡ record { asking = asking; required = required; preferred = preferred; transaction = transaction } ⌝ }
+{
+    Request {
+        asking,
+        required,
+        preferred,
+        transaction,
+    }
+}
+
+#[no_mangle]
+pub extern "C" fn layout_flow_state(active: bool, charged: bool, accounting: u8) -> FlowState
+    ensures { λ r. ⌜ r ≡ record { active = active; charged = charged; accounting = accounting } ⌝ }
+{
+    FlowState {
+        active,
+        charged,
+        accounting,
+    }
+}
+
+#[no_mangle]
+pub extern "C" fn layout_fault(row: usize, table: u8, field: u8) -> Fault
+    ensures { λ r. ⌜ r ≡ record { row = row; table = table; field = field } ⌝ }
+{
+    Fault { row, table, field }
 }

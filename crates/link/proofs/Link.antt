@@ -3,22 +3,22 @@
 --     run-card, run-saw a run, call by call
 -- Assumes nothing.
 use Prim.Native.Nat.{ℕ}
-use mathlib.Core.Path.{_≡_, refl, sym, ap, ap₂, subst, _∙_}
-use mathlib.Core.Bool.{Bool, true, cond}
+use mathlib.Core.Path.{_≡_, refl, sym, ap, subst, _∙_}
+use mathlib.Core.Bool.{Bool, true, false, cond}
 use mathlib.Core.List.{List, [], _∷_, map}
 use lib.ListN.{length}
-use lib.Dec.{eqb}
-use borrow.Author.Tests.{eq-eqb}
+use native.Mathlib.Omega.{arith}
+use Rattle.octets.specs.Tests.{every}
 use Rattle.octets.specs.Writing.{over}
+use Rattle.tables.specs.Tables.{tablesOk}
 use Rattle.card.specs.declared.Core.{Core}
-use Rattle.card.specs.declared.Fresh.{Fresh}
-use Rattle.card.specs.Cards.{Card, Areas, cardOf}
+use Rattle.card.specs.Cards.{Card, cardOf}
 use Rattle.card.specs.Outcome.{Outcome}
-use Rattle.card.specs.Start.{Started, StartGives}
+use Rattle.card.specs.Start.{Started, freshCard, freshAreas, firstOk, startOf}
 use Rattle.demand3.specs.Calls.{Tables, Call, ours, outcomeOf, startedOf, cardAfter, history}
 use Rattle.demand3.specs.Calls.Call.{portUp, portDown, setDelegation, join, leave, ask, message}
 use Rattle.calls.specs.Calls.{tablesOf}
-use Rattle.link.specs.Link.{Turn, Run, callIn, AllHave, Linked, Link}
+use Rattle.link.specs.Link.{Turn, Run, callIn, AllHave, Linked, Starts, Link}
 use Rattle.link.specs.Link.Run.{none, more}
 
 -- no call reads the counts and switches that the tables of demand 3 repeat: each reads those of the card
@@ -55,15 +55,29 @@ module _ (t : Tables) where
         subst (λ (c : Card). AllHave xs (history ours t c (map callIn xs))) goes (run-saw next xs last rest),
       )
 
--- the card that a start gave
-started-card : (s : Started) (r : Fresh) (before areas : Areas) → StartGives s r before areas → r .number ≡ 0 → cardOf (r .core) areas ≡ s .card
-started-card s r before areas g e =
-    ap₂ cardOf (g .core) (g .areas ∙ ap (λ (b : Bool). cond b (s .card .areas) before) (eq-eqb (s .number) 0 (sym (g .number) ∙ e)))
+-- the card that a start wrote
+module _ (t : Tables) (first : ℕ) where
+  abbrev fresh : Card
+  fresh = freshCard (t .ports) (t .channelCount) (t .entryCount) (t .whiteCac) (t .addCac) first
+
+  abbrev gives : Bool → Started
+  gives b = cond b (record { card = fresh; number = 0 }) (record { card = freshCard 0 0 0 false false 1; number = 14 })
+
+  started-card : (number : ℕ) (core : Core) → Starts t first number core → cardOf core freshAreas ≡ startedOf t first .card
+  unfolding startedOf startOf
+  started-card number core s =
+      ap (λ (c : Core). cardOf c freshAreas) (s .fresh)
+      ∙ go (every (tablesOk (t .ids) (t .ports) (t .channels) (t .channelCount) (t .entries) (t .entryCount) ∷ firstOk first ∷ []))
+      (sym (s .gives) ∙ s .taken)
+    where
+      go : (b : Bool) → gives b .number ≡ 0 → fresh ≡ gives b .card
+      go true h = refl
+      go false h = absurd (omega arith)
 
 pub link : Link
 link =
     record {
-      linked = λ t first r before areas g e xs last run.
-          let run-here = subst (λ (c : Card). Run t c xs last) (started-card (startedOf t first) r before areas g e) run in
+      linked = λ t first number core s xs last run.
+          let run-here = subst (λ (c : Card). Run t c xs last) (started-card t first number core s) run in
           record { card = run-card t _ xs last run-here; saw = run-saw t _ xs last run-here };
     }

@@ -1,14 +1,15 @@
--- The link between the C functions and demand 3's claim: what `ancp_card_started` and `ancp_card_call` are proved to do, over any list of
--- calls on one card with one set of tables, is a list of calls of the claim. Assumes nothing: these are definitions; the statement is
--- proved in proofs/.
+-- The link between the C functions and demand 3's claim: what `ancp_card_start_number`, the three functions that write a
+-- fresh core (`ancp_port_fresh_in`, `ancp_pool_fresh_in`, `ancp_head_fresh_in`) and `ancp_card_call` are proved to do, over
+-- any list of calls on one card with one set of tables, is a list of calls of the claim. Assumes nothing: these are
+-- definitions; the statement is proved in proofs/.
 use Prim.Native.Nat.{ℕ}
 use mathlib.Core.Path.{_≡_}
 use mathlib.Core.List.{List, [], _∷_, map}
 use lib.ListN.{length}
 use Rattle.octets.specs.Writing.{over}
-use Rattle.card.specs.declared.Fresh.{Fresh}
-use Rattle.card.specs.Cards.{Card, Areas, cardOf}
-use Rattle.card.specs.Start.{StartGives}
+use Rattle.card.specs.declared.Core.{Core}
+use Rattle.card.specs.Cards.{Card, cardOf}
+use Rattle.card.specs.Start.{freshCore, freshAreas}
 use Rattle.demand3.specs.Calls.{Tables, Call, Seen, ours, startedOf, cardAfter, history}
 use Rattle.calls.specs.declared.HostCall.{HostCall}
 use Rattle.calls.specs.Calls.{callOf}
@@ -52,7 +53,13 @@ pub record Linked (t : Tables) (first : ℕ) (xs : List Turn) (last : Card) : Ty
   pub card : last ≡ cardAfter ours t (startedOf t first .card) (map callIn xs)
   pub saw : AllHave xs (history ours t (startedOf t first .card) (map callIn xs))
 
--- from a start that is taken, by the core and the areas that it gave
+-- a start that is taken: its number is 0, and the core that is then written is fresh: the ports' records, the pool, the head
+pub record Starts (t : Tables) (first number : ℕ) (core : Core) : Type 0 where
+  pub gives : number ≡ startedOf t first .number
+  pub taken : number ≡ 0
+  pub fresh : core ≡ freshCore (t .ports) (t .channelCount) (t .entryCount) (t .whiteCac) (t .addCac) first
+
+-- from a start that is taken, by the core that it wrote and the areas as they are at first
 pub record Link : Type 0 where
-  pub linked : (t : Tables) (first : ℕ) (r : Fresh) (before areas : Areas) → StartGives (startedOf t first) r before areas → r .number ≡ 0
-      → (xs : List Turn) (last : Card) → Run t (cardOf (r .core) areas) xs last → Linked t first xs last
+  pub linked : (t : Tables) (first number : ℕ) (core : Core) → Starts t first number core
+      → (xs : List Turn) (last : Card) → Run t (cardOf core freshAreas) xs last → Linked t first xs last

@@ -1,8 +1,5 @@
 // A port's active flows in order of family, group, source (none first).
-use card::Core;
-use flows::Flow;
 use pool::Rows;
-use rows::Found;
 ghost use mathlib.Core.Path.{_≡_};
 ghost use mathlib.Core.Bool.{Bool};
 ghost use mathlib.Core.List.{List, []};
@@ -10,40 +7,7 @@ ghost use Prim.Native.Nat.{ℕ, _+_, _<_};
 ghost use lib.ListN.{take};
 ghost use Rattle.octets.specs.Writing.{over};
 ghost use Rattle.pool.specs.Pool.{asRows, rowsIn, poolOf};
-ghost use Rattle.card.specs.Cards.{Areas, cardOf};
-ghost use Rattle.listing.specs.Listing.{rowBefore, placed, Listed, rowsInOrder, flowsAt, activeAt};
-
-// ---- what a host may read
-
-// The channels of the port's active flows, in order.
-pub fn flows_of(core: Core, channels: &[u32; 2816], p: usize) -> Rows
-    ensures { λ r. ⌜ ((areas : Areas) → r ≡ asRows (flowsAt (now (channels .entry)) (cardOf core areas) p)) ⌝ }
-{
-    if !card::is_port(core.head.port_count, p) {
-        return no_rows();
-    }
-    let pool = core.pool;
-    rows_in_order(channels, &pool.owner, &pool.channel, p as u8)
-}
-
-// The flow is active on the port.
-pub fn is_active(core: Core, channels: &[u32; 2816], p: usize, f: Flow) -> bool
-    ensures { λ r. ⌜ ((areas : Areas) → r ≡ activeAt (now (channels .entry)) (cardOf core areas) p f) ⌝ }
-{
-    if !card::is_port(core.head.port_count, p) {
-        return false;
-    }
-    let found = channels::channel_of(channels, core.head.channel_count, f);
-    match found {
-        Found::Nothing => false,
-        Found::At(k) => {
-            let pool = core.pool;
-            pool::is_active(&pool.owner, &pool.channel, p as u8, k)
-        }
-    }
-}
-
-// ---- order
+ghost use Rattle.listing.specs.Listing.{rowBefore, placed, Listed, rowsInOrder};
 
 // Whatever the other maps hold.
 pub fn rows_in_order<'a>(

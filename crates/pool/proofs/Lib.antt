@@ -6,3 +6,4 @@ pub mod Lent
 pub mod Pools
 pub mod Law
 pub mod Lists
+pub mod States

@@ -16,6 +16,7 @@ use Rattle.sums.specs.Sums.{sumTo, mapTo, pickTo}
 use Rattle.octets.specs.Writing.{over}
 use Rattle.pool.specs.declared.Pool.{Pool}
 use Rattle.pool.specs.declared.Rows.{Rows}
+use Rattle.pool.specs.declared.FlowState.{FlowState}
 
 -- ---- a port's records, and sums over them
 
@@ -103,6 +104,22 @@ rowsIn owner channel p = pickTo 512 (isOf owner p) (λ i. getD channel i 0)
 unfoldable pub asRows : List ℕ → Rows
 asRows ks = record { count = length (take 16 ks); rows = over (take 16 ks) (replicate 16 0) }
 
+-- record i is port p's, and its channel is k
+abbrev pub isHeld : List ℕ → List ℕ → ℕ → ℕ → ℕ → Bool
+isHeld owner channel p k i = isOf owner p i && eqb (getD channel i 0) k
+
+abbrev pub noState : FlowState
+noState = record { active = false; charged = false; accounting = 0 }
+
+-- what a record says of its flow
+abbrev pub stateAt : List Bool → List ℕ → Found → FlowState
+stateAt charged accounting (At i) = record { active = true; charged = getD charged i false; accounting = getD accounting i 0 }
+stateAt charged accounting Nothing = noState
+
+-- what the port's flow of channel k has: what its first record of it says. On cards that calls reach there is one at most
+unfoldable pub stateIn : List ℕ → List ℕ → List Bool → List ℕ → ℕ → ℕ → FlowState
+stateIn owner channel charged accounting p k = stateAt charged accounting (firstRow 512 (isHeld owner channel p k))
+
 -- ---- the same of a pool
 
 abbrev pub activeCount : Pool → ℕ → ℕ
@@ -116,6 +133,9 @@ holdsOf pool p k = holdsIn (pool .owner) (pool .channel) p k
 
 abbrev pub isActive : Pool → ℕ → ℕ → Bool
 isActive pool p k = activeIn (pool .owner) (pool .channel) p k
+
+abbrev pub stateOf : Pool → ℕ → ℕ → FlowState
+stateOf pool p k = stateIn (pool .owner) (pool .channel) (pool .charged) (pool .accounting) p k
 
 -- the port has the flow with this address
 abbrev pub hasFlow : List ℕ → Pool → ℕ → Flow → Bool

@@ -7,7 +7,7 @@ ghost use lib.Dec.{eqb};
 ghost use Rattle.rows.specs.Rows.{noneOf};
 ghost use Rattle.sums.specs.Sums.{mapTo};
 ghost use Rattle.channels.specs.Channels.{isRow};
-ghost use Rattle.pool.specs.Pool.{isOf, Next, countIn, committedIn, activeIn, activeWhere, extrasIn, freeIn, roomIn, freshPool, began, rowsIn, asRows, poolOf, Whole, endedIn, endedAllIn, accountedIn};
+ghost use Rattle.pool.specs.Pool.{isOf, Next, countIn, committedIn, activeIn, activeWhere, extrasIn, freeIn, roomIn, freshPool, began, rowsIn, asRows, poolOf, Whole, endedIn, endedAllIn, accountedIn, stateIn};
 use channels::channel_at;
 use channels::rate_at;
 use flows::Flow;
@@ -30,6 +30,14 @@ pub struct Pool {
 pub struct Rows {
     pub count: usize,
     pub rows: [u8; 16],
+}
+
+// What a port's flow of a channel has: its charge and its accounting. Where it is not active they are false and 0.
+#[repr(C)]
+pub struct FlowState {
+    pub active: bool,
+    pub charged: bool,
+    pub accounting: u8,
 }
 
 impl Pool {
@@ -159,6 +167,36 @@ pub fn is_active<'a>(owner: &'a [u8; 512], channel: &'a [u8; 512], p: u8, k: u8)
         i = next_of(owner, p, i + 1);
     }
     false
+}
+
+// What the port's flow of channel k has.
+pub fn state_of<'a>(
+    owner: &'a [u8; 512],
+    channel: &'a [u8; 512],
+    charged: &'a [bool; 512],
+    accounting: &'a [u8; 512],
+    p: u8,
+    k: u8,
+) -> FlowState
+    ensures state { λ r. ⌜ r ≡ stateIn (now (owner .entry)) (now (channel .entry)) (now (charged .entry)) (now (accounting .entry)) p k ⌝ }
+    ensures active { λ r. ⌜ r .active ≡ activeIn (now (owner .entry)) (now (channel .entry)) p k ⌝ }
+{
+    let mut i = next_of(owner, p, 0);
+    while i < 512 {
+        if channel[i] == k {
+            return FlowState {
+                active: true,
+                charged: charged[i],
+                accounting: accounting[i],
+            };
+        }
+        i = next_of(owner, p, i + 1);
+    }
+    FlowState {
+        active: false,
+        charged: false,
+        accounting: 0,
+    }
 }
 
 // The rates of the port's charged flows.

@@ -60,7 +60,7 @@ fn transaction(t: Tables) {
     };
     let call = calls::on_port(calls::ASK, 0, 7000, 8000);
     let did = shown(t, c, call, b"", givens::flow(0));
-    table::of_ask(given(t, c), card::next_transaction(c), expected, did);
+    table::of_ask(given(t, c), c.head.counter.number, expected, did);
 }
 
 // A join on port 0; one that is refused leaves the card's amounts and its next number alone too.
@@ -120,11 +120,14 @@ fn message(required: u32, preferred: u32) -> [u8; 40] {
 fn given(t: Tables, c: Core) -> Given {
     let channels = t.channels;
     let pool = c.pool;
+    let table = c.ports;
+    let x = table[0];
+    let n = c.head.port_count;
     Given {
-        delegation: card::delegation(c, 0),
-        committed: card::committed(c, &channels, 0),
+        delegation: readers::delegation(x, n, 0),
+        committed: readers::committed(&pool.owner, &pool.channel, &pool.charged, &channels, n, 0),
         flows: pool::active_count(&pool.owner, 0),
-        extras: card::extras(c),
+        extras: pool::extras_of(&pool.owner),
     }
 }
 
@@ -135,14 +138,21 @@ fn shown(t: Tables, c: Core, call: HostCall, octets: &[u8], f: Flow) -> Shown {
     let d = givens::done(c, t, call, octets, &mut reply);
     let h = header::header_fields(&reply);
     let amount = octets::read32(&reply, 32);
+    let core = d.core;
+    let pool = core.pool;
+    let table = core.ports;
+    let x = table[0];
+    let head = core.head;
+    let n = head.port_count;
+    let k = head.channel_count;
     Shown {
         number: d.number,
         result: h.result,
         code: h.code,
         amount: if h.kind == 147 { amount } else { 0 },
         transaction: h.transaction,
-        delegation: card::delegation(d.core, 0),
-        active: listing::is_active(d.core, &channels, 0, f),
-        next: card::next_transaction(d.core),
+        delegation: readers::delegation(x, n, 0),
+        active: readers::is_active(&pool.owner, &pool.channel, &channels, n, k, 0, f),
+        next: head.counter.number,
     }
 }

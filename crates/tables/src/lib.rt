@@ -135,7 +135,7 @@ fn entry_ok(e: Entry) -> bool
     within_address(e.family, e.source_length)
 }
 
-fn known_list(list: u32) -> bool
+pub fn known_list(list: u32) -> bool
     ensures { λ r. ⌜ r ≡ knownList list ⌝ }
 {
     if list < 1 {
@@ -145,7 +145,7 @@ fn known_list(list: u32) -> bool
 }
 
 // A prefix is no longer than an address of the family.
-fn within_address(family: u32, length: u32) -> bool
+pub fn within_address(family: u32, length: u32) -> bool
     ensures { λ r. ⌜ r ≡ withinAddress family length ⌝ }
 {
     length <= bits_of(family)
