@@ -21,8 +21,8 @@ ghost use Rattle.card.specs.Figures.{upOf, delegationOf, committedAt};
 ghost use Rattle.ports.specs.Ports.{freshPort};
 ghost use Rattle.pool.specs.Pool.{extrasIn, freshPool, asRows, poolOf};
 ghost use Rattle.listing.specs.Listing.{flowsAt, activeAt};
-ghost use Rattle.readers.specs.Readers.{HasRecord, requestOf, rowStateAt, flowStateAt};
-ghost use Rattle.faults.specs.Faults.{Names, startChecks};
+ghost use Rattle.readers.specs.Readers.{HasRecord, openRequestOf, rowStateAt, flowStateAt};
+ghost use Rattle.faults.specs.Faults.{NamesFault, startChecks};
 ghost use Rattle.numbers.specs.Numbers.{afterOf, Counted};
 ghost use Rattle.exports.specs.Answers.{CallDoes};
 
@@ -112,7 +112,7 @@ pub extern "C" fn ancp_start_fault(
     entry_count: usize,
     first: u32,
 ) -> Fault
-    ensures names { λ r. ⌜ Names (startChecks (now (ids .entry)) ports (now (channels .entry)) «channel_count» (now (entries .entry)) «entry_count» first) r ⌝ }
+    ensures names { λ r. ⌜ NamesFault (startChecks (now (ids .entry)) ports (now (channels .entry)) «channel_count» (now (entries .entry)) «entry_count» first) r ⌝ }
     ensures none { λ r. ⌜ ((white add : Bool) → eqb (r .table) 0 ≡ eqb (startOf (now (ids .entry)) ports (now (channels .entry)) «channel_count» (now (entries .entry)) «entry_count» white add first .number) 0) ⌝ }
 {
     faults::start_fault(
@@ -196,7 +196,7 @@ pub extern "C" fn ancp_card_delegation_in(x: Port, port_count: usize, p: usize) 
 
 #[no_mangle]
 pub extern "C" fn ancp_card_request_in(x: Port, port_count: usize, p: usize) -> Request
-    ensures { λ r. ⌜ ((card : Card) → HasRecord card «port_count» p x → r ≡ requestOf card p) ⌝ }
+    ensures { λ r. ⌜ ((card : Card) → HasRecord card «port_count» p x → r ≡ openRequestOf card p) ⌝ }
 {
     readers::open_request(x, port_count, p)
 }

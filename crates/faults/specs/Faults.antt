@@ -41,7 +41,7 @@ firstFault [] = noFault
 firstFault (c ∷ cs) = cond (c .passes) (firstFault cs) (c .fault)
 
 -- r is what the first test that fails names, and its table is 0 exactly where all pass
-pub record Names (cs : List Check) (r : Fault) : Type 0 where
+pub record NamesFault (cs : List Check) (r : Fault) : Type 0 where
   pub first : r ≡ firstFault cs
   pub whole : eqb (r .table) 0 ≡ allPass cs
 

@@ -4,7 +4,7 @@ ghost use mathlib.Core.Bool.{Bool};
 ghost use Prim.Native.Nat.{_<_};
 ghost use lib.Dec.{eqb};
 ghost use Rattle.card.specs.Start.{startOf};
-ghost use Rattle.faults.specs.Faults.{Names, faultAt, portChecks, channelChecks, entryChecks, tableChecks, startChecks};
+ghost use Rattle.faults.specs.Faults.{NamesFault, faultAt, portChecks, channelChecks, entryChecks, tableChecks, startChecks};
 use channels::channel_at;
 use channels::channel_of;
 use channels::rate_at;
@@ -37,7 +37,7 @@ pub fn start_fault(
     entry_count: usize,
     first: u32,
 ) -> Fault
-    ensures names { λ r. ⌜ Names (startChecks (now (ids .entry)) ports (now (channels .entry)) «channel_count» (now (entries .entry)) «entry_count» first) r ⌝ }
+    ensures names { λ r. ⌜ NamesFault (startChecks (now (ids .entry)) ports (now (channels .entry)) «channel_count» (now (entries .entry)) «entry_count» first) r ⌝ }
     ensures none { λ r. ⌜ ((white add : Bool) → eqb (r .table) 0 ≡ eqb (startOf (now (ids .entry)) ports (now (channels .entry)) «channel_count» (now (entries .entry)) «entry_count» white add first .number) 0) ⌝ }
 {
     let p = ports_fault(ids, ports);
@@ -67,7 +67,7 @@ fn fault_at(table: u8, row: usize, field: u8) -> Fault
 // ---- circuit ids
 
 fn ports_fault(ids: &[u8; 4096], n: usize) -> Fault
-    ensures { λ r. ⌜ Names (tableChecks 1 64 n (portChecks (now (ids .entry)))) r ⌝ }
+    ensures { λ r. ⌜ NamesFault (tableChecks 1 64 n (portChecks (now (ids .entry)))) r ⌝ }
 {
     if 64 < n {
         return fault_at(1, 0, 1);
@@ -85,7 +85,7 @@ fn ports_fault(ids: &[u8; 4096], n: usize) -> Fault
 
 fn port_fault(ids: &[u8; 4096], p: u8) -> Fault
     requires { ⌜ p < 64 ⌝ }
-    ensures { λ r. ⌜ Names (portChecks (now (ids .entry)) p) r ⌝ }
+    ensures { λ r. ⌜ NamesFault (portChecks (now (ids .entry)) p) r ⌝ }
 {
     let at = p as usize;
     let length = ids[at * 64];
@@ -104,7 +104,7 @@ fn port_fault(ids: &[u8; 4096], p: u8) -> Fault
 // ---- channels
 
 fn channels_fault(channels: &[u32; 2816], n: usize) -> Fault
-    ensures { λ r. ⌜ Names (tableChecks 2 256 n (channelChecks (now (channels .entry)))) r ⌝ }
+    ensures { λ r. ⌜ NamesFault (tableChecks 2 256 n (channelChecks (now (channels .entry)))) r ⌝ }
 {
     if 256 < n {
         return fault_at(2, 0, 1);
@@ -121,7 +121,7 @@ fn channels_fault(channels: &[u32; 2816], n: usize) -> Fault
 }
 
 fn channel_fault(channels: &[u32; 2816], i: u8) -> Fault
-    ensures { λ r. ⌜ Names (channelChecks (now (channels .entry)) i) r ⌝ }
+    ensures { λ r. ⌜ NamesFault (channelChecks (now (channels .entry)) i) r ⌝ }
 {
     let at = i as usize;
     let rate = rate_at(channels, i);
@@ -152,7 +152,7 @@ fn channel_fault(channels: &[u32; 2816], i: u8) -> Fault
 // ---- list entries
 
 fn entries_fault(entries: &[u32; 1536], n: usize) -> Fault
-    ensures { λ r. ⌜ Names (tableChecks 3 128 n (entryChecks (now (entries .entry)))) r ⌝ }
+    ensures { λ r. ⌜ NamesFault (tableChecks 3 128 n (entryChecks (now (entries .entry)))) r ⌝ }
 {
     if 128 < n {
         return fault_at(3, 0, 1);
@@ -170,7 +170,7 @@ fn entries_fault(entries: &[u32; 1536], n: usize) -> Fault
 
 fn entry_fault(entries: &[u32; 1536], i: usize) -> Fault
     requires { ⌜ i < 128 ⌝ }
-    ensures { λ r. ⌜ Names (entryChecks (now (entries .entry)) i) r ⌝ }
+    ensures { λ r. ⌜ NamesFault (entryChecks (now (entries .entry)) i) r ⌝ }
 {
     let e = entry_at(entries, i);
     if !known_family(e.family) {

@@ -18,7 +18,7 @@ use Rattle.card.specs.Start.{Started, freshCard, freshAreas, firstOk, startOf}
 use Rattle.demand3.specs.Calls.{Tables, Call, ours, outcomeOf, startedOf, cardAfter, history}
 use Rattle.demand3.specs.Calls.Call.{portUp, portDown, setDelegation, join, leave, ask, message}
 use Rattle.calls.specs.Calls.{tablesOf}
-use Rattle.link.specs.Link.{Turn, Run, callIn, AllHave, Linked, Starts, Link}
+use Rattle.link.specs.Link.{Turn, Run, callIn, AllHave, Linked, StartTaken, Link}
 use Rattle.link.specs.Link.Run.{none, more}
 
 -- no call reads the counts and switches that the tables of demand 3 repeat: each reads those of the card
@@ -63,7 +63,7 @@ module _ (t : Tables) (first : ℕ) where
   abbrev gives : Bool → Started
   gives b = cond b (record { card = fresh; number = 0 }) (record { card = freshCard 0 0 0 false false 1; number = 14 })
 
-  started-card : (number : ℕ) (core : Core) → Starts t first number core → cardOf core freshAreas ≡ startedOf t first .card
+  started-card : (number : ℕ) (core : Core) → StartTaken t first number core → cardOf core freshAreas ≡ startedOf t first .card
   unfolding startedOf startOf
   started-card number core s =
       ap (λ (c : Core). cardOf c freshAreas) (s .fresh)

@@ -54,12 +54,12 @@ pub record Linked (t : Tables) (first : ℕ) (xs : List Turn) (last : Card) : Ty
   pub saw : AllHave xs (history ours t (startedOf t first .card) (map callIn xs))
 
 -- a start that is taken: its number is 0, and the core that is then written is fresh: the ports' records, the pool, the head
-pub record Starts (t : Tables) (first number : ℕ) (core : Core) : Type 0 where
+pub record StartTaken (t : Tables) (first number : ℕ) (core : Core) : Type 0 where
   pub gives : number ≡ startedOf t first .number
   pub taken : number ≡ 0
   pub fresh : core ≡ freshCore (t .ports) (t .channelCount) (t .entryCount) (t .whiteCac) (t .addCac) first
 
 -- from a start that is taken, by the core that it wrote and the areas as they are at first
 pub record Link : Type 0 where
-  pub linked : (t : Tables) (first number : ℕ) (core : Core) → Starts t first number core
+  pub linked : (t : Tables) (first number : ℕ) (core : Core) → StartTaken t first number core
       → (xs : List Turn) (last : Card) → Run t (cardOf core freshAreas) xs last → Linked t first xs last

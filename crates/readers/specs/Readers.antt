@@ -29,12 +29,12 @@ requestFor x =
     record { asking = true; required = x .required; preferred = x .preferred; transaction = x .transaction }
 
 -- the open request of a port's record
-unfoldable pub requestIn : Port → Request
-requestIn x = cond (x .asking) (requestFor x) noRequest
+unfoldable pub openRequestIn : Port → Request
+openRequestIn x = cond (x .asking) (requestFor x) noRequest
 
 -- the port's open request
-unfoldable pub requestOf : Card → ℕ → Request
-requestOf card p = cond (hasPort card p) (requestIn (portAt card p)) noRequest
+unfoldable pub openRequestOf : Card → ℕ → Request
+openRequestOf card p = cond (hasPort card p) (openRequestIn (portAt card p)) noRequest
 
 -- what the port's flow of channel k has: whether it is active, its charge, its accounting
 unfoldable pub rowStateAt : Card → ℕ → ℕ → FlowState

@@ -13,7 +13,7 @@ ghost use Rattle.pool.specs.Pool.{poolOf, asRows};
 ghost use Rattle.card.specs.Cards.{Card, withPool};
 ghost use Rattle.card.specs.Figures.{upOf, delegationOf, committedAt};
 ghost use Rattle.listing.specs.Listing.{flowsAt, activeAt};
-ghost use Rattle.readers.specs.Readers.{HasRecord, requestIn, requestOf, rowStateAt, flowStateAt};
+ghost use Rattle.readers.specs.Readers.{HasRecord, openRequestIn, openRequestOf, rowStateAt, flowStateAt};
 
 // ---- of a port's record
 
@@ -45,7 +45,7 @@ pub struct Request {
 }
 
 pub fn open_request(x: Port, count: usize, p: usize) -> Request
-    ensures { λ r. ⌜ ((card : Card) → HasRecord card count p x → r ≡ requestOf card p) ⌝ }
+    ensures { λ r. ⌜ ((card : Card) → HasRecord card count p x → r ≡ openRequestOf card p) ⌝ }
 {
     if !card::is_port(count, p) {
         return Request {
@@ -59,7 +59,7 @@ pub fn open_request(x: Port, count: usize, p: usize) -> Request
 }
 
 fn request_in(x: Port) -> Request
-    ensures { λ r. ⌜ r ≡ requestIn x ⌝ }
+    ensures { λ r. ⌜ r ≡ openRequestIn x ⌝ }
 {
     if !x.asking {
         return Request {

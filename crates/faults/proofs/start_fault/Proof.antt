@@ -6,7 +6,7 @@ use lib.Dec.{eqb}
 use borrow.Author.Tests.{eq-eqb, ne-eqb, not-true, not-false}
 use Rattle.card.specs.Start.{firstOk, startOf}
 use Rattle.faults.specs.declared.Fault.{Fault}
-use Rattle.faults.specs.Faults.{Check, check, Names, portChecks, channelChecks, entryChecks, tableChecks, startChecks}
+use Rattle.faults.specs.Faults.{Check, check, NamesFault, portChecks, channelChecks, entryChecks, tableChecks, startChecks}
 use Rattle.faults.proofs.Lists.{names-none, names-fails, names-on, names-stop, names-go}
 use Rattle.faults.proofs.Whole.{whole-start}
 use borrow.Author.Needs.{needs}
@@ -29,28 +29,28 @@ module _ (ids : List ℕ) (ports : ℕ) (channels : List ℕ) (channelCount : �
   -- the two clauses, of what is named
   abbrev Gives : Fault → Type 0
   Gives r =
-      Names (startChecks ids ports channels channelCount entries entryCount first) r
+      NamesFault (startChecks ids ports channels channelCount entries entryCount first) r
       × ((white add : Bool) → eqb (r .table) 0 ≡ eqb (startOf ids ports channels channelCount entries entryCount white add first .number) 0)
 
-  gives : {r : Fault} → Names (A ++ (B ++ (D ++ E))) r → Gives r
+  gives : {r : Fault} → NamesFault (A ++ (B ++ (D ++ E))) r → Gives r
   unfolding startChecks
   gives n = (n, λ white add. n .whole ∙ whole-start ids ports channels channelCount entries entryCount first white add)
 
-  at-ports : {r : Fault} → Names A r → eqb (r .table) 0 ≡ false → Gives r
+  at-ports : {r : Fault} → NamesFault A r → eqb (r .table) 0 ≡ false → Gives r
   at-ports n z = gives (names-stop A (B ++ (D ++ E)) n z)
 
-  module _ {p : Fault} (np : Names A p) (zp : eqb (p .table) 0 ≡ true) where
-    past : {r : Fault} → Names (B ++ (D ++ E)) r → Gives r
+  module _ {p : Fault} (np : NamesFault A p) (zp : eqb (p .table) 0 ≡ true) where
+    past : {r : Fault} → NamesFault (B ++ (D ++ E)) r → Gives r
     past n = gives (names-go A (B ++ (D ++ E)) np zp n)
 
-    at-channels : {r : Fault} → Names B r → eqb (r .table) 0 ≡ false → Gives r
+    at-channels : {r : Fault} → NamesFault B r → eqb (r .table) 0 ≡ false → Gives r
     at-channels n z = past (names-stop B (D ++ E) n z)
 
-    module _ {q : Fault} (nq : Names B q) (zq : eqb (q .table) 0 ≡ true) where
-      at-entries : {r : Fault} → Names D r → eqb (r .table) 0 ≡ false → Gives r
+    module _ {q : Fault} (nq : NamesFault B q) (zq : eqb (q .table) 0 ≡ true) where
+      at-entries : {r : Fault} → NamesFault D r → eqb (r .table) 0 ≡ false → Gives r
       at-entries n z = past (names-go B (D ++ E) nq zq (names-stop D E n z))
 
-      at-first : {e r : Fault} → Names D e → eqb (e .table) 0 ≡ true → Names E r → Gives r
+      at-first : {e r : Fault} → NamesFault D e → eqb (e .table) 0 ≡ true → NamesFault E r → Gives r
       at-first n z m = past (names-go B (D ++ E) nq zq (names-go D E n z m))
 
 returns : tie.Need-returns
