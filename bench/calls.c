@@ -11,7 +11,7 @@ static ancp_tables tables;
 static uint8_t reply[ANCP_REPLY];
 static uint32_t *const channels = tables.channels, *const entries = tables.entries;
 
-static double now(void) { struct timespec t; clock_gettime(CLOCK_MONOTONIC, &t); return t.tv_sec * 1e9 + t.tv_nsec; }
+static double now(void) { struct timespec t; clock_gettime(CLOCK_MONOTONIC, &t); return (double)t.tv_sec * 1e9 + (double)t.tv_nsec; }
 
 static ancp_flow nth(unsigned k) { ancp_flow f = {ANCP_IPV4, 0, {0xE9000000u + k, 0, 0, 0}, {0, 0, 0, 0}}; return f; }
 
@@ -91,13 +91,14 @@ static void joins(void) {
     ancp_flow first = nth(3), last = nth(255);
     const ancp_flow *which[2] = {&first, &last};
     for (int i = 0; i < 2; i++) {
-        int rounds = 20000, a = 0, b = 0;
+        int rounds = 20000, b = 0;
+        unsigned a = 0;
         double t0 = now();
         for (int r = 0; r < rounds; r++) { d = c; a += ancp_card_join(&d, &tables, 63, which[i], reply, sizeof reply, NULL); }
         double t1 = now();
         for (int r = 0; r < rounds; r++) { d = c; b += plain_join(&d.core, 63, which[i]); }
         double t2 = now();
-        printf("join, %s channel, full pool: proved %.0f ns, plain C %.0f ns, each with the card copied once for it%s\n", i ? "last" : "fourth", (t1 - t0) / rounds, (t2 - t1) / rounds, a == b ? "" : " DIFFERENT");
+        printf("join, %s channel, full pool: proved %.0f ns, plain C %.0f ns, each with the card copied once for it%s\n", i ? "last" : "fourth", (t1 - t0) / rounds, (t2 - t1) / rounds, a == (unsigned)b ? "" : " DIFFERENT");
     }
 }
 
@@ -220,6 +221,7 @@ static void readers(void) {
     MEASURE("request", ancp_card_request(&c, 20).asking);
     MEASURE("extras, full pool", ancp_card_extras(&c));
     MEASURE("next transaction", ancp_card_next_transaction(&c));
+    (void)sink;
 }
 
 /* ---- stack: the free part of a thread's own stack is painted before a call, and looked at after it; a call's frames lie below this one's */

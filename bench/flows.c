@@ -43,7 +43,7 @@ __attribute__((noinline)) static uint32_t c_list(const uint32_t *t, size_t n, co
     return list[best % 4];
 }
 
-static double now(void) { struct timespec t; clock_gettime(CLOCK_MONOTONIC, &t); return t.tv_sec * 1e9 + t.tv_nsec; }
+static double now(void) { struct timespec t; clock_gettime(CLOCK_MONOTONIC, &t); return (double)t.tv_sec * 1e9 + (double)t.tv_nsec; }
 
 static void fill(uint32_t family) {
     memset(channels, 0, sizeof channels);
@@ -84,6 +84,7 @@ int main(void) {
         double c = now(); for (int i = 0; i < N; i++) sink += speed_list(entries, 128, f);
         double d = now(); for (int i = 0; i < N; i++) sink += c_list(entries, 128, &f);
         double e = now();
+        (void)sink;
         printf("IPv%d: last of 256 channels %4.0f ns, C %4.0f ns; 128 entries %4.0f ns, C %4.0f ns\n", family == 1 ? 4 : 6, (b - a) / N, (c - b) / N, (d - c) / N, (e - d) / N);
     }
     return 0;
