@@ -24,7 +24,7 @@ pub struct Shown {
 pub fn heading() {
     io::write_all(
         1,
-        b"The starred cases of 01, on port 0: what is given | what is expected | what the card did | do they agree\n",
+        b"The starred cases, on port 0: what is given | what is expected | what the card did | do they agree\n",
     );
 }
 
