@@ -256,6 +256,22 @@ static void faults(void) {
     IS(ancp_fault_text(NULL, 0, NULL), 0);
 }
 
+/* The last of 3 ports of a card with one channel: readers look at the count that is meant. */
+static void read_last_port(void) {
+    IS(ancp_card_port_up(&card, &tables, 2), ANCP_DONE);
+    IS(ancp_card_set_delegation(&card, &tables, 2, 1000), ANCP_DONE);
+    IS(ancp_card_join(&card, &tables, 2, &white, reply, ROOM, &length), ANCP_DONE);
+    HOLDS(ancp_card_is_up(&card, 2));
+    IS(ancp_card_delegation(&card, 2), 1000);
+    IS(ancp_card_committed(&card, &tables, 2), 1000);
+    IS(ancp_card_flows(&card, &tables, 2).count, 1);
+    HOLDS(ancp_card_is_active(&card, &tables, 2, &white));
+    HOLDS(ancp_card_flow(&card, &tables, 2, &white).active);
+    HOLDS(ancp_card_flow_of_row(&card, 2, 0).active);
+    IS(ancp_card_ask(&card, &tables, 2, 2000, 3000, reply, ROOM, &length), ANCP_DONE);
+    HOLDS(ancp_card_request(&card, 2).asking);
+}
+
 /* what a start counts: ports, channels, entries, each on its own */
 static void counts(void) {
     fill();
@@ -264,6 +280,7 @@ static void counts(void) {
     IS(ancp_card_start(&card, &tables, 3, 1, 4, true, true, 1), ANCP_DONE);
     IS(ancp_card_port_up(&card, &tables, 1), ANCP_DONE);
     IS(ancp_card_join(&card, &tables, 1, &grey, reply, ROOM, &length), ANCP_NOT_LISTED);
+    read_last_port();
     IS(ancp_card_start(&card, &tables, 3, 4, 0, true, true, 1), ANCP_DONE);
     IS(ancp_card_port_up(&card, &tables, 1), ANCP_DONE);
     IS(ancp_card_join(&card, &tables, 1, &white, reply, ROOM, &length), ANCP_IGNORED);
@@ -341,6 +358,8 @@ static void joins(void) {
     HOLDS(!ancp_card_is_active(&card, &tables, 0, &six));
     IS(ancp_card_join(&card, &tables, 0, &white, reply, ROOM, &length), ANCP_ACTIVE);
     IS(ancp_card_join(&card, &tables, 0, &six, reply, ROOM, NULL), ANCP_DONE);
+    HOLDS(ancp_card_is_active(&card, &tables, 0, &six)); /* the last row: more channels than ports */
+    HOLDS(ancp_card_flow(&card, &tables, 0, &six).active);
     rows = ancp_card_flows(&card, &tables, 0);
     IS(rows.count, 2);
     IS(rows.rows[0], 0);
