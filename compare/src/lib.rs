@@ -14,3 +14,4 @@ pub mod reply;
 pub mod rng;
 pub mod starts;
 pub mod tlv;
+pub mod zeros;

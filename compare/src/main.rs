@@ -5,6 +5,7 @@ use compare::messages::set_lengths;
 use compare::pair::{self, hex, Pair, Seen};
 use compare::rng::Rng;
 use compare::starts;
+use compare::zeros::{self, Zeros};
 use std::collections::BTreeMap;
 use std::process::ExitCode;
 
@@ -30,6 +31,7 @@ struct Counts {
     numbers: [usize; 17],
     /// By type, Result and code of the reply.
     replies: BTreeMap<(u8, u8, u16), usize>,
+    zeros: Zeros,
 }
 
 impl Counts {
@@ -98,9 +100,13 @@ fn run_calls(rng: &mut Rng, start: &Start, mut pair: Pair, counts: &mut Counts) 
     let mut done = Vec::new();
     for i in 0..length {
         let call = opening.get(i).cloned().unwrap_or_else(|| calls::call(rng, start, &pair.card));
+        let zero = zeros::zero(&pair.card, &call);
         done.push(call);
         let seen = perform(&mut pair, &done, i + 1 == length).map_err(|what| difference(start, &done, what))?;
         counts.seen(&seen);
+        if let Some(zero) = zero {
+            counts.zeros.seen(&zero, &seen);
+        }
         counts.most_extras = counts.most_extras.max(pair.card.extras());
     }
     Ok(())
@@ -283,6 +289,9 @@ fn report(counts: &Counts, seed: u64) -> ExitCode {
     line("147 Failure, code 0x0".into(), counts.reply(147, 4, 0));
     line("148 Success".into(), counts.reply(148, 3, 0));
     line("149 Success".into(), counts.reply(149, 3, 0));
+    for (what, count) in counts.zeros.lines() {
+        line(what, count);
+    }
     if missing.is_empty() {
         println!("no difference");
         return ExitCode::SUCCESS;

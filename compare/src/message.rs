@@ -62,6 +62,7 @@ impl Card {
     /// The table, row by row.
     fn checked<'a>(&self, header: &Header, octets: &'a [u8]) -> Result<Body<'a>, Fault> {
         check_kind_and_result(header)?;
+        check_transaction(header)?;
         let levels = if header.kind == TRANSFER { 4 } else { 3 };
         if !tlv::sound(octets, levels) {
             return Err(fault(0x53));
@@ -165,6 +166,16 @@ fn check_kind_and_result(header: &Header) -> Result<(), Fault> {
         Ok(())
     } else {
         Err(fault(0x2))
+    }
+}
+
+/// Zero is no transaction of a request. A 147 is an answer: no open request has this number.
+fn check_transaction(header: &Header) -> Result<(), Fault> {
+    let is_request = matches!(header.kind, REPLICATION | REALLOCATION | DELEGATION_QUERY | FLOW_QUERY);
+    if is_request && header.transaction == 0 {
+        Err(fault(0x2))
+    } else {
+        Ok(())
     }
 }
 

@@ -58,7 +58,11 @@ impl Maker<'_> {
         octets
     }
 
+    /// An open request gets more answers than its share.
     fn kind(&mut self) -> u8 {
+        if self.card.request(self.port).is_some() && self.rng.chance(20) {
+            return 147;
+        }
         match self.rng.below(100) {
             0..=44 => 144,
             45..=59 => 146,
@@ -75,6 +79,7 @@ impl Maker<'_> {
             return self.rng.below(16) as u8;
         }
         match kind {
+            144 if self.rng.chance(7) => 0,
             144 => self.rng.pick(&[1, 2, 2]),
             147 => self.rng.pick(&[3, 3, 4]),
             148 | 149 => 2,
@@ -96,13 +101,14 @@ impl Maker<'_> {
         octets
     }
 
-    /// Partition and transaction.
+    /// Partition and transaction: 0 in one message of twelve, and numbers near it or with octets that are 0.
     fn transaction(&mut self, kind: u8) -> u32 {
         let partition = (self.rng.pick(&[0, 0, 1, 255]) as u32) << 24;
         let open = self.card.request(self.port);
         let transaction = match (kind, open) {
+            _ if self.rng.below(12) == 0 => 0,
             (147, Some(open)) if self.rng.chance(85) => open.transaction,
-            _ => self.rng.pick(&[0, 1, 7, 16_777_215, 16_777_214]),
+            _ => self.rng.pick(&[1, 1, 7, 16_777_215, 16_777_215, 16_777_214, 0x00_0100, 0x01_0000]),
         };
         partition | transaction
     }

@@ -53,7 +53,7 @@ impl Pair {
         let here = on_card(&mut self.card, call, &mut self.buffer);
         let there = on_proved(&mut self.proved, call, &mut self.proved_buffer);
         let seen = self.compare_answers(here, there)?;
-        let kept = matches!(seen.number, 1 | 3..=16);
+        let kept = matches!(seen.number, 1 | 3..=16) || encloses_nothing(&seen.reply);
         if kept && before != self.proved.record() {
             return Err(format!("number {}, but the proved card's record changed", seen.number));
         }
@@ -117,6 +117,11 @@ impl Pair {
             _ => Ok(()),
         }
     }
+}
+
+/// A Generic Response, Failure, whose Status-Info gives the message type alone: no TLV was looked at (0x2, 0x51, 0x53).
+fn encloses_nothing(reply: &[u8]) -> bool {
+    reply.len() == 24 && reply[5] == 91 && reply[6] >> 4 == 4
 }
 
 /// The call on the card written here.

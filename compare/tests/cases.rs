@@ -49,6 +49,15 @@ fn message(octets: Vec<u8>) -> Call {
     Call::Message { octets, port: 0, space: 4608 }
 }
 
+/// Both cards answer the message with this number and this reply, and keep what they hold.
+fn kept(pair: &mut Pair, text: &str, number: u8, reply: &str) {
+    let before = pair.proved.record();
+    let seen = pair.perform(&message(of_hex(text))).expect("no difference");
+    assert_eq!((seen.number, hex(&seen.reply)), (number, reply.into()), "{text}");
+    assert!(before == pair.proved.record(), "{text}: the card changed");
+    pair.compare_all().expect("no difference");
+}
+
 fn of_hex(text: &str) -> Vec<u8> {
     (0..text.len()).step_by(2).map(|i| u8::from_str_radix(&text[i..i + 2], 16).expect("hex")).collect()
 }
@@ -115,4 +124,34 @@ fn octet_program() {
     let seen = pair.perform(&message(of_hex("880C0018329420000000000780010018100000080001000270310000"))).expect("no difference");
     assert_eq!((seen.number, seen.reply.len()), (0, 36));
     assert_eq!(hex(&seen.reply), "880C00203294300000000007800100201000000800010002703100000015000400000FA0");
+}
+
+/// Req 06: 144, 146, 148 and 149 with transaction 0 are refused with 0x2, after the check of Result and before 0x53.
+#[test]
+fn transaction_0_is_refused() {
+    let mut pair = up(&tables(3, 1, &[1000, 500]), 4000);
+    does(&mut pair, &join(0, 0));
+    let refused_148 = "880C0014325B400200000000800100140106000400940000";
+    kept(&mut pair, "880C0018329420000000000080010018100000080001000270310000", 0, refused_148);
+    kept(&mut pair, "880C001932942000000000008001001910000008000100027031000000", 0, refused_148);
+    let delete_all = "880C00203290100009000000800100201000000800010002703100000011000403000000";
+    kept(&mut pair, delete_all, 0, "880C0014325B400209000000800100140106000400900000");
+    let request = "880C00243292000000000000800100241000000800010002703100000016000800000FA000000FA0";
+    kept(&mut pair, request, 0, "880C0014325B400200000000800100140106000400920000");
+    let flow_query = "880C0018329520000000000080010018100000080001000270310000";
+    kept(&mut pair, flow_query, 0, "880C0014325B400200000000800100140106000400950000");
+    assert_eq!(pair.card.flows(0).len(), 1, "the flow goes on");
+}
+
+/// Req 06 leaves the notice, an answer (147) and types that are not handled as they were.
+#[test]
+fn transaction_0_elsewhere() {
+    let mut pair = up(&tables(3, 1, &[1000, 500]), 4000);
+    kept(&mut pair, "880C000C32900000000000008001000C", 0, "");
+    let transfer = "880C00203293300000000000800100201000000800010002703100000015000400000001";
+    kept(&mut pair, transfer, 16, "");
+    does(&mut pair, &Call::Ask { port: 0, required: 4001, preferred: 5000, space: 4608 });
+    kept(&mut pair, "880C00203293300000000000800100201000000800010002703100000015000400001388", 16, "");
+    assert_eq!(pair.card.request(0).map(|open| open.transaction), Some(16_777_215), "the request stays open");
+    kept(&mut pair, "880C0010325D0000000000008001001000240000", 0, "880C0014325B4051000000008001001401060004005D0000");
 }
