@@ -1,4 +1,4 @@
-/* What test.c and test_text.c share. */
+/* What test.c and test_text.c share. requests.c, a program of its own, has the checks, tables, card and reply of it. */
 #include "ancp_card.h"
 #include "ancp_text.h"
 

@@ -1,0 +1,361 @@
+/* The worked examples of the change requests, request by request, in tables of steps. `make test` runs them under the
+   sanitizers; the program ends with status 1 at the first step that is not so.
+
+   A step is a call and its answer, written as in a script of run-drafts: a verb with octets in hexadecimal digits; the
+   number and the reply's octets.
+     m, s  a message; s with a reply buffer of 4,607 octets
+     f     a message, with zeros behind it up to the length that its header gives
+     u, x  port up, port down: port (1 octet)
+     j, l  join, leave: port, row of the channel (1 octet each)
+     d     set delegation: port, amount (4 octets)
+     a     ask: port, required, preferred (4 octets each)
+     p     port (1 octet): the answer is the port as ancp_card_port_text writes it
+   After each step the buffer beyond the reply is as it was, and the card is as it was (KEPT) or not (MOVED).
+
+   Each table begins with S0: ports 0, 1, 2 are p1, p2, p3, all up, with delegation 4000. Channels: row 0 is A,
+   239.1.1.1, rate 1000; rows 1 to 4 are B1 to B4, 239.1.1.2 from 192.0.2.1 to 192.0.2.4, rates 1000, 500, 1500, 1; row
+   5 is V, ff3e::1 from 2001:db8::1, rate 2000. All are white; both switches are on; the first transaction number is
+   1. */
+#include "test.h"
+#include <stdio.h>
+#include <stdlib.h>
+
+typedef enum { KEPT, MOVED } held;
+typedef struct {
+    const char *what, *call, *answer;
+    held card;
+} step;
+
+unsigned long tried;
+static const char *request, *now;
+
+static void differs(const char *file, int line) {
+    printf("%s:%d: %s, %s: ", file, line, request, now);
+}
+
+void same(const char *file, int line, const char *what, unsigned long long is, unsigned long long due) {
+    tried++;
+    if (is == due) return;
+    differs(file, line);
+    printf("%s is %llu, not %llu\n", what, is, due);
+    exit(1);
+}
+
+void same_text(const char *file, int line, const char *what, const char *is, const char *due) {
+    tried++;
+    if (strcmp(is, due) == 0) return;
+    differs(file, line);
+    printf("%s is\n  %s, not\n  %s\n", what, is, due);
+    exit(1);
+}
+
+/* ---- S0 */
+ancp_tables tables;
+ancp_card card;
+uint8_t reply[ANCP_REPLY + 64];
+size_t length;
+enum { ROWS = 6 };
+static ancp_flow channels[ROWS];
+
+static void fill_channels(void) {
+    static const char *const address[ROWS][2] = {
+        {"239.1.1.1", NULL},        {"239.1.1.2", "192.0.2.1"}, {"239.1.1.2", "192.0.2.2"},
+        {"239.1.1.2", "192.0.2.3"}, {"239.1.1.2", "192.0.2.4"}, {"ff3e::1", "2001:db8::1"},
+    };
+    static const uint32_t rates[ROWS] = {1000, 1000, 500, 1500, 1, 2000};
+    for (size_t k = 0; k < ROWS; k++) {
+        IS(ancp_flow_from_text(&channels[k], address[k][0], address[k][1]), ANCP_DONE);
+        IS(ancp_set_channel(&tables, k, &channels[k], rates[k]), ANCP_DONE);
+    }
+}
+
+static void start_s0(void) {
+    static const char *const ids[] = {"p1", "p2", "p3"};
+    memset(&tables, 0, sizeof tables);
+    fill_channels();
+    for (size_t p = 0; p < 3; p++) IS(ancp_set_port(&tables, p, ids[p], 2), ANCP_DONE);
+    IS(ancp_set_entry(&tables, 0, ANCP_LIST_WHITE, &channels[0], 0, 0), ANCP_DONE);
+    IS(ancp_set_entry(&tables, 1, ANCP_LIST_WHITE, &channels[5], 0, 0), ANCP_DONE);
+    IS(ancp_card_start(&card, &tables, 3, ROWS, 2, true, true, 1), ANCP_DONE);
+    for (size_t p = 0; p < 3; p++) {
+        IS(ancp_card_port_up(&card, &tables, p), ANCP_DONE);
+        IS(ancp_card_set_delegation(&card, &tables, p, 4000), ANCP_DONE);
+    }
+}
+
+/* ---- one step */
+static uint8_t given[ANCP_MESSAGE + 1];
+
+static void written_right(bool so) {
+    if (!so) HOLDS(so);
+}
+
+static unsigned digit(char c) {
+    const char *digits = "0123456789ABCDEF", *at = strchr(digits, c);
+    written_right(c && at);
+    return at ? (unsigned)(at - digits) : 0;
+}
+
+/* the octets behind a call's verb are given; how many there are */
+static size_t read_octets(const char *call) {
+    size_t n = 0;
+    memset(given, 0, sizeof given);
+    if (!call[1]) return 0;
+    for (const char *at = call + 2; *at; at += 2) {
+        written_right(call[1] == ' ' && n < sizeof given);
+        given[n++] = (uint8_t)(digit(at[0]) << 4 | digit(at[1]));
+    }
+    return n;
+}
+
+static uint32_t word(size_t at) {
+    return (uint32_t)given[at] << 24 | (uint32_t)given[at + 1] << 16 | (uint32_t)given[at + 2] << 8 | given[at + 3];
+}
+
+static ancp_number message(size_t n, size_t room) {
+    return ancp_card_message(&card, &tables, given, n, reply, room, &length);
+}
+
+static const ancp_flow *channel(void) {
+    written_right(given[1] < ROWS);
+    return &channels[given[1] < ROWS ? given[1] : 0];
+}
+
+static ancp_number call_of(char verb, size_t n) {
+    written_right(verb && strchr("msfuxjlda", verb));
+    switch (verb) {
+        case 'm': return message(n, ROOM);
+        case 's': return message(n, ROOM - 1);
+        case 'f': return message(4 + (word(0) & 0xFFFF), ROOM);
+        case 'u': return ancp_card_port_up(&card, &tables, given[0]);
+        case 'x': return ancp_card_port_down(&card, &tables, given[0]);
+        case 'j': return ancp_card_join(&card, &tables, given[0], channel(), reply, ROOM, &length);
+        case 'l': return ancp_card_leave(&card, &tables, given[0], channel());
+        case 'd': return ancp_card_set_delegation(&card, &tables, given[0], word(1));
+        default: return ancp_card_ask(&card, &tables, given[0], word(1), word(5), reply, ROOM, &length);
+    }
+}
+
+static const char *answer_of(const char *call) {
+    static char out[16 + 2 * ANCP_REPLY];
+    size_t n = read_octets(call), at;
+    if (call[0] == 'p') {
+        ancp_card_port_text(out, sizeof out, &card, &tables, given[0]);
+        return out;
+    }
+    ancp_number number = call_of(call[0], n);
+    HOLDS(length <= ROOM);
+    at = (size_t)sprintf(out, length ? "%u " : "%u", (unsigned)number);
+    for (size_t i = 0; i < length; i++) at += (size_t)sprintf(out + at, "%02X", (unsigned)reply[i]);
+    return out;
+}
+
+static void play(const char *name, const step *steps, size_t count) {
+    static ancp_card before;
+    request = name;
+    now = "start";
+    start_s0();
+    for (size_t i = 0; i < count; i++) {
+        size_t beyond;
+        now = steps[i].what;
+        before = card;
+        length = 0;
+        memset(reply, 0xA5, sizeof reply);
+        TEXT(answer_of(steps[i].call), steps[i].answer);
+        for (beyond = length; beyond < sizeof reply && reply[beyond] == 0xA5;) beyond++;
+        IS(beyond, sizeof reply);
+        IS(memcmp(&card, &before, sizeof card) ? MOVED : KEPT, steps[i].card);
+    }
+}
+
+/* ---- what messages are made of */
+#define P1 "100000080001000270310000" /* Target */
+#define P2 "100000080001000270320000"
+#define P9 "100000080001000270390000" /* no port's */
+#define A "0019000801010000EF010101" /* Multicast-Flow */
+#define B1 "0019000C02010001EF010102C0000201"
+#define B2 "0019000C02010001EF010102C0000202"
+#define ADD_B1 "0011001401010000" B1 /* with accounting */
+#define ADD_B2 "0011001401000000" B2
+#define ADD_A "0011001001010000" A /* with accounting */
+#define DELETE_A "0011001002000000" A
+#define DELETE_B2 "0011001402000000" B2
+#define DELETE_ALL "0011000403000000"
+
+/* ---- Req 06. Zero is no transaction: 144, 146, 148 and 149 with transaction 0 are refused with 0x2, straight after
+   the check of Result and before 0x53. The reply has the message's partition and transaction, and a Status-Info that
+   gives the message type alone. */
+#define NO_TRANSACTION(type) "0 880C0014325B400200000000800100140106000400" type "0000"
+#define NOT_HANDLED(type) "0 880C0014325B405100000000800100140106000400" type "0000"
+
+static const step req06_examples[] = {
+    {"port 0 joins A", "j 0000", "0", MOVED},
+    {"148", "m 880C0018329420000000000080010018" P1, NO_TRANSACTION("94"), KEPT},
+    {"148, one octet more", "m 880C0019329420000000000080010019" P1 "00", NO_TRANSACTION("94"), KEPT},
+    {"144, Delete All, partition 9", "m 880C0020329010000900000080010020" P1 DELETE_ALL,
+     "0 880C0014325B400209000000800100140106000400900000", KEPT},
+    {"the notice", "m 880C000C32900000000000008001000C", "0", KEPT},
+    {"147", "m 880C0020329330000000000080010020" P1 "0015000400000001", "16", KEPT},
+    /* as long as no Provisioning is handled; once it is, its transaction is not looked at */
+    {"93", "m 880C0010325D0000000000008001001000240000", NOT_HANDLED("5D"), KEPT},
+    {"A goes on", "m 880C0018329520000000000780010018" P1, "0 880C0024329530000000000780010024" P1 A, KEPT},
+};
+
+/* each of the four types at 0, 1 and 16,777,215, and where only some octets of the transaction are 0 */
+static const step req06_limits[] = {
+    {"148, 0, partition 255", "m 880C00183294200FFF00000080010018" P1,
+     "0 880C0014325B4002FF000000800100140106000400940000", KEPT},
+    {"148, 1", "m 880C0018329420000000000180010018" P1,
+     "0 880C0020329430000000000180010020" P1 "0015000400000FA0", KEPT},
+    {"148, 256", "m 880C0018329420000000010080010018" P1,
+     "0 880C0020329430000000010080010020" P1 "0015000400000FA0", KEPT},
+    {"148, 65,536", "m 880C0018329420000001000080010018" P1,
+     "0 880C0020329430000001000080010020" P1 "0015000400000FA0", KEPT},
+    {"148, 16,777,215", "m 880C00183294200000FFFFFF80010018" P1,
+     "0 880C00203294300000FFFFFF80010020" P1 "0015000400000FA0", KEPT},
+    {"144, 0, Result 1", "m 880C0030329010000000000080010030" P1 ADD_B2, NO_TRANSACTION("90"), KEPT},
+    {"144, 0, Result 2", "m 880C0030329020000000000080010030" P1 ADD_B2, NO_TRANSACTION("90"), KEPT},
+    {"144, 1", "m 880C0030329020000000000180010030" P1 ADD_B2, "0 880C000C325B3000000000018001000C", MOVED},
+    {"144, 16,777,215", "m 880C00303290200000FFFFFF80010030" P1 DELETE_B2, "0 880C000C325B300000FFFFFF8001000C", MOVED},
+    {"144, 1, Result 1", "m 880C0030329010000000000180010030" P1 ADD_B2, "0", MOVED},
+    {"149, 0", "m 880C0018329520000000000080010018" P1, NO_TRANSACTION("95"), KEPT},
+    {"149, 1", "m 880C0018329520000000000180010018" P1, "0 880C0028329530000000000180010028" P1 B2, KEPT},
+    {"149, 16,777,215", "m 880C00183295200000FFFFFF80010018" P1, "0 880C00283295300000FFFFFF80010028" P1 B2, KEPT},
+    {"146, 0", "m 880C0024329200000000000080010024" P1 "0016000800000FA000000BB8", NO_TRANSACTION("92"), KEPT},
+    {"146, 1", "m 880C0024329200000000000180010024" P1 "0016000800000FA000000BB8",
+     "0 880C0020329330000000000180010020" P1 "0015000400000BB8", MOVED},
+    {"146, 16,777,215", "m 880C00243292000000FFFFFF80010024" P1 "0016000800000FA0000007D0",
+     "0 880C00203293300000FFFFFF80010020" P1 "00150004000007D0", MOVED},
+};
+
+/* before every other refusal but those of type and Result: next to each the same message with transaction 7 */
+static const step req06_order[] = {
+    {"144, Result 5", "m 880C0020329050000000000080010020" P1 DELETE_ALL, NO_TRANSACTION("90"), KEPT},
+    {"146, Result 2", "m 880C0024329220000000000080010024" P1 "0016000800000FA000000BB8", NO_TRANSACTION("92"), KEPT},
+    {"148, Result 0", "m 880C0018329400000000000080010018" P1, NO_TRANSACTION("94"), KEPT},
+    {"149, Result 1", "m 880C0018329510000000000080010018" P1, NO_TRANSACTION("95"), KEPT},
+    {"Result, 7", "m 880C0018329510000000000780010018" P1, "0 880C0014325B400200000007800100140106000400950000", KEPT},
+    {"144, broken", "m 880C0020329010000000000080010020" P1 "0011000503000000", NO_TRANSACTION("90"), KEPT},
+    {"144, broken, 7", "m 880C0020329010000000000780010020" P1 "0011000503000000",
+     "0 880C0014325B405300000007800100140106000400900000", KEPT},
+    {"146, broken", "m 880C0024329200000000000080010024" P1 "0016000900000FA000000BB8", NO_TRANSACTION("92"), KEPT},
+    {"146, broken, 7", "m 880C0024329200000000000780010024" P1 "0016000900000FA000000BB8",
+     "0 880C0014325B405300000007800100140106000400920000", KEPT},
+    {"149, broken", "m 880C0018329520000000000080010018100000090001000270310000", NO_TRANSACTION("95"), KEPT},
+    {"149, broken, 7", "m 880C0018329520000000000780010018100000090001000270310000",
+     "0 880C0014325B405300000007800100140106000400950000", KEPT},
+    {"148, too deep", "m 880C0030329420000000000080010030" P1 "00110014000000001000000C" P1,
+     NO_TRANSACTION("94"), KEPT},
+    {"148, too deep, 7", "m 880C0030329420000000000780010030" P1 "00110014000000001000000C" P1,
+     "0 880C0014325B405300000007800100140106000400940000", KEPT},
+    {"144, nothing in it", "m 880C000C32901000000000008001000C", NO_TRANSACTION("90"), KEPT},
+    {"144, nothing in it, 7", "m 880C000C32901000000000078001000C",
+     "0 880C001C325B4054000000078001001C0106000C009000001000000000110000", KEPT},
+    {"146, Target alone", "m 880C0018329200000000000080010018" P1, NO_TRANSACTION("92"), KEPT},
+    {"146, Target alone, 7", "m 880C0018329200000000000780010018" P1,
+     "0 880C0018325B40540000000780010018010600080092000000160000", KEPT},
+    {"149, nothing in it", "m 880C000C32952000000000008001000C", NO_TRANSACTION("95"), KEPT},
+    {"148, a second Target", "m 880C0024329420000000000080010024" P1 P2, NO_TRANSACTION("94"), KEPT},
+    {"148, a second Target, 7", "m 880C0024329420000000000780010024" P1 P2,
+     "0 880C0020325B405500000007800100200106001000940000" P2, KEPT},
+    {"146, a wrong length", "m 880C0020329200000000000080010020" P1 "0016000400000FA0", NO_TRANSACTION("92"), KEPT},
+    {"146, a wrong length, 7", "m 880C0020329200000000000780010020" P1 "0016000400000FA0",
+     "0 880C001C325B4055000000078001001C0106000C009200000016000400000FA0", KEPT},
+    {"149, no circuit id", "m 880C001032952000000000008001001010000000", NO_TRANSACTION("95"), KEPT},
+    {"149, no circuit id, 7", "m 880C001032952000000000078001001010000000",
+     "0 880C0018325B40550000000780010018010600080095000010000000", KEPT},
+    {"148, unknown port", "m 880C0018329420000000000080010018" P9, NO_TRANSACTION("94"), KEPT},
+    {"148, unknown port, 7", "m 880C0018329420000000000780010018" P9,
+     "0 880C0020325B450000000007800100200106001000940000" P9, KEPT},
+    {"port 1 down", "x 01", "0", MOVED},
+    {"144, port down", "m 880C0020329010000000000080010020" P2 DELETE_ALL, NO_TRANSACTION("90"), KEPT},
+    {"146, port down", "m 880C0024329200000000000080010024" P2 "0016000800000FA000000BB8", NO_TRANSACTION("92"), KEPT},
+    {"149, port down", "m 880C0018329520000000000080010018" P2, NO_TRANSACTION("95"), KEPT},
+    {"149, port down, 7", "m 880C0018329520000000000780010018" P2,
+     "0 880C0020325B400600000007800100200106001000950000" P2, KEPT},
+    {"144, a wrong command", "m 880C0020329010000000000080010020" P1 "0011000404000000", NO_TRANSACTION("90"), KEPT},
+    {"144, a wrong command, 7", "m 880C0020329010000000000780010020" P1 "0011000404000000",
+     "0 880C0030325B406400000007800100300106002000900000" P1 "00220004000000010011000404000000", KEPT},
+    {"146, preferred > required", "m 880C0024329200000000000080010024" P1 "0016000800000BB800000FA0",
+     NO_TRANSACTION("92"), KEPT},
+    {"146, preferred > required, 7", "m 880C0024329200000000000780010024" P1 "0016000800000BB800000FA0",
+     "0 880C0020329340670000000780010020" P1 "0015000400000FA0", KEPT},
+    {"148, the largest", "f 880C0FFC329420000000000080010FFC" P1, NO_TRANSACTION("94"), KEPT},
+    {"148, the largest, 7", "f 880C0FFC329420000000000780010FFC" P1,
+     "0 880C0020329430000000000780010020" P1 "0015000400000FA0", KEPT},
+};
+
+/* what comes before the table stays: 13, 15, the notice; and what is not handled stays 0x51 */
+static const step req06_before[] = {
+    {"144, Result 3", "m 880C0020329030000000000080010020" P1 DELETE_ALL, "15", KEPT},
+    {"144, Result 4", "m 880C0020329040000000000080010020" P1 DELETE_ALL, "15", KEPT},
+    {"146, Result 3", "m 880C0024329230000000000080010024" P1 "0016000800000FA000000BB8", "15", KEPT},
+    {"146, Result 4", "m 880C0024329240000000000080010024" P1 "0016000800000FA000000BB8", "15", KEPT},
+    {"148, Result 3", "m 880C0018329430000000000080010018" P1, "15", KEPT},
+    {"148, Result 4", "m 880C0018329440000000000080010018" P1, "15", KEPT},
+    {"149, Result 3", "m 880C0018329530000000000080010018" P1, "15", KEPT},
+    {"149, Result 4", "m 880C0018329540000000000080010018" P1, "15", KEPT},
+    {"15 octets", "m 880C000B3294200000000000800100", "15", KEPT},
+    {"4,097 octets", "f 880C0FFD329420000000000080010FFD" P1, "15", KEPT},
+    {"no 0x880C", "m 880D0018329420000000000080010018" P1, "15", KEPT},
+    {"another first length", "m 880C0019329420000000000080010018" P1, "15", KEPT},
+    {"another second length", "m 880C0018329420000000000080010017" P1, "15", KEPT},
+    {"another version", "m 880C0018319420000000000080010018" P1, "15", KEPT},
+    {"I flag 0", "m 880C0018329420000000000000010018" P1, "15", KEPT},
+    {"submessage 2", "m 880C0018329420000000000080020018" P1, "15", KEPT},
+    {"148, buffer of 4,607", "s 880C0018329420000000000080010018" P1, "13", KEPT},
+    {"notice, buffer of 4,607", "s 880C000C32900000000000008001000C", "13", KEPT},
+    {"notice with commands", "m 880C0030329000000000000080010030" P1 ADD_B2, "0", KEPT},
+    {"notice, broken, partition 1", "m 880C000D32900FFF010000008001000D00", "0", KEPT},
+    {"91", "m 880C0018325B00000000000080010018" P1, NOT_HANDLED("5B"), KEPT},
+    {"145", "m 880C0030329100000000000080010030" P1 ADD_B2, NOT_HANDLED("91"), KEPT},
+    {"150", "m 880C0018329600000000000080010018" P1, NOT_HANDLED("96"), KEPT},
+    {"143, one octet more", "m 880C0019328F10000000000080010019" P1 "00", NOT_HANDLED("8F"), KEPT},
+    {"151", "m 880C000C32972000000000008001000C", NOT_HANDLED("97"), KEPT},
+};
+
+/* nothing is done: no flow begins or ends, no accounting, no delegation; a 147 is an answer to no request */
+#define HELD \
+    "port 0 \"p1\": up, delegation 4000, committed 2000\n" \
+    "  asks for 4500, preferred 6000, by transaction 1\n" \
+    "  channel 0 (*, 239.1.1.1), rate 1000, charged, accounting 0\n" \
+    "  channel 1 (192.0.2.1, 239.1.1.2), rate 1000, charged, accounting 1\n"
+
+static const step req06_state[] = {
+    {"147, none open", "m 880C0020329340000000000080010020" P1 "0015000400001388", "16", KEPT},
+    {"port 0 joins A", "j 0000", "0", MOVED},
+    {"Add of B1", "m 880C0030329010000000000580010030" P1 ADD_B1, "0", MOVED},
+    {"port 0 asks", "a 000000119400001770", "0 880C0024329200000000000180010024" P1 "001600080000119400001770", MOVED},
+    {"held", "p 00", HELD, KEPT},
+    {"144, Delete All", "m 880C0020329020000000000080010020" P1 DELETE_ALL, NO_TRANSACTION("90"), KEPT},
+    {"144, Delete", "m 880C002C32901000000000008001002C" P1 DELETE_A, NO_TRANSACTION("90"), KEPT},
+    {"144, Add", "m 880C0030329020000000000080010030" P1 ADD_B2, NO_TRANSACTION("90"), KEPT},
+    {"144, accounting", "m 880C002C32901000000000008001002C" P1 ADD_A, NO_TRANSACTION("90"), KEPT},
+    {"144, two commands", "m 880C0038329020000000000080010038" P1 DELETE_ALL ADD_B2, NO_TRANSACTION("90"), KEPT},
+    {"144, another port", "m 880C0030329020000000000080010030" P2 ADD_B2, NO_TRANSACTION("90"), KEPT},
+    {"146", "m 880C0024329200000000000080010024" P1 "0016000800000FA000000BB8", NO_TRANSACTION("92"), KEPT},
+    {"147, Result 3", "m 880C0020329330000000000080010020" P1 "0015000400001388", "16", KEPT},
+    {"147, Result 4", "m 880C0020329340000000000080010020" P1 "0015000400001388", "16", KEPT},
+    {"147, unknown port", "m 880C0020329330000000000080010020" P9 "0015000400001388", "16", KEPT},
+    {"147, Target alone", "m 880C0018329330000000000080010018" P1, "15", KEPT},
+    {"147, Result 2", "m 880C0020329320000000000080010020" P1 "0015000400001388", "15", KEPT},
+    {"held still", "p 00", HELD, KEPT},
+    {"147, the request's number", "m 880C0020329330000000000180010020" P1 "0015000400001388", "0", MOVED},
+    {"granted", "p 00",
+     "port 0 \"p1\": up, delegation 5000, committed 2000\n"
+     "  channel 0 (*, 239.1.1.1), rate 1000, charged, accounting 0\n"
+     "  channel 1 (192.0.2.1, 239.1.1.2), rate 1000, charged, accounting 1\n",
+     KEPT},
+};
+
+#define PLAY(name, steps) play(name, steps, sizeof steps / sizeof *steps)
+
+int main(void) {
+    PLAY("Req 06, examples", req06_examples);
+    PLAY("Req 06, limits", req06_limits);
+    PLAY("Req 06, order", req06_order);
+    PLAY("Req 06, before the table", req06_before);
+    PLAY("Req 06, state", req06_state);
+    printf("requests: %lu values as they must be\n", tried);
+    return 0;
+}
