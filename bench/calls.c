@@ -105,7 +105,7 @@ static void joins(void) {
 /* ---- messages */
 static size_t put16(uint8_t *m, size_t n, unsigned x) { m[n] = (uint8_t)(x >> 8); m[n + 1] = (uint8_t)x; return n + 2; }
 
-static size_t head(uint8_t *m, unsigned kind, unsigned result) { memset(m, 0, 16); m[0] = 0x88; m[1] = 0x0C; m[4] = 0x32; m[5] = (uint8_t)kind; m[6] = (uint8_t)(result << 4); m[12] = 0x80; m[13] = 1; return 16; }
+static size_t head(uint8_t *m, unsigned kind, unsigned result) { memset(m, 0, 16); m[0] = 0x88; m[1] = 0x0C; m[4] = 0x32; m[5] = (uint8_t)kind; m[6] = (uint8_t)(result << 4); m[11] = 7; m[12] = 0x80; m[13] = 1; return 16; }
 
 static size_t target(uint8_t *m, size_t n, unsigned p) { n = put16(m, n, 0x1000); n = put16(m, n, 8); n = put16(m, n, 1); n = put16(m, n, 1); m[n] = (uint8_t)(p + 1); m[n + 1] = m[n + 2] = m[n + 3] = 0; return n + 4; }
 
