@@ -10,8 +10,9 @@
 -- Wireshark's own dissector `ancp` (seen in 4.0) shows of 144 to 150 the header alone, and of 91 and 93 the TLVs of the
 -- top level unread. This one, `ancp_mc`, takes its place on TCP port 6068 and hands it every message of another type.
 --
--- Expert infos. ancp_mc.unusable: the header is not one that a card reads. ancp_mc.malformed: lengths that do not fit,
--- and TLVs nested too deep (what 0x53 refuses). ancp_mc.contents: contents that are not the type's (what 0x55 refuses).
+-- Expert infos. ancp_mc.unusable: the header is not one that a card reads. ancp_mc.no_transaction: a request of type
+-- 144, 146, 148 or 149 with transaction 0 (what 0x2 refuses). ancp_mc.malformed: lengths that do not fit, and TLVs
+-- nested too deep (what 0x53 refuses). ancp_mc.contents: contents that are not the type's (what 0x55 refuses).
 
 local proto = Proto("ancp_mc", "ANCP multicast control")
 
@@ -119,9 +120,10 @@ local function problem(name, what, group)
     return ProtoExpert.new("ancp_mc." .. name, what, group, expert.severity.ERROR)
 end
 local unusable = problem("unusable", "Unusable header", expert.group.PROTOCOL)
+local no_transaction = problem("no_transaction", "Transaction 0 in a request", expert.group.PROTOCOL)
 local malformed = problem("malformed", "Length that does not fit", expert.group.MALFORMED)
 local contents = problem("contents", "Contents that are not the type's", expert.group.PROTOCOL)
-proto.experts = { unusable, malformed, contents }
+proto.experts = { unusable, no_transaction, malformed, contents }
 
 -- Below, `s` is the message, and `at` and `stop` say which of its octets: from `at` to before `stop`.
 
@@ -319,11 +321,27 @@ function show_list(s, at, stop, tree, depth, bare)
     while at < stop do at = show_tlv(s, at, stop, tree, depth, bare) end
 end
 
-local function show_header(s, tree)
+-- a response has Result 3 or 4
+local function result_of(s) return math.floor(s(6, 2):uint() / 4096) end
+local function is_response(s) return result_of(s) == 3 or result_of(s) == 4 end
+
+-- A card refuses these with transaction 0, but not the reject notice: 144 with Result 0.
+local REQUESTS = { [144] = true, [146] = true, [148] = true, [149] = true }
+local function lacks_transaction(s)
+    local kind = s(5, 1):uint()
+    local notice = kind == 144 and result_of(s) == 0
+    return REQUESTS[kind] and not notice and not is_response(s) and s(9, 3):uint() == 0
+end
+
+local function show_header(s, tree, usable)
     fields(s, 0, 16, tree, { { f.mark, 2 }, { f.length, 2 }, { f.version, 1 }, { f.kind, 1 } })
     tree:add(f.result, s(6, 2))
     tree:add(f.code, s(6, 2))
-    fields(s, 8, 16, tree, { { f.partition, 1 }, { f.transaction, 3 } })
+    tree:add(f.partition, s(8, 1))
+    local transaction = tree:add(f.transaction, s(9, 3))
+    if usable and lacks_transaction(s) then
+        transaction:add_proto_expert_info(no_transaction, "transaction 0: a card refuses this with 0x2")
+    end
     tree:add(f.last, s(12, 2))
     tree:add(f.submessage, s(12, 2))
     tree:add(f.again, s(14, 2))
@@ -338,7 +356,7 @@ local function header_problem(s)
 end
 
 local function title(s)
-    local result, code = math.floor(s(6, 2):uint() / 4096), s(6, 2):uint() % 4096
+    local result, code = result_of(s), s(6, 2):uint() % 4096
     local words = { MESSAGES[s(5, 1):uint()] or "Message " .. s(5, 1):uint(), RESULTS[result] or "Result " .. result }
     if code > 0 then words[3] = CODES[code] or string.format("code 0x%03X", code) end
     words[#words + 1] = "transaction " .. s(9, 3):uint()
@@ -367,10 +385,9 @@ for kind = 144, 150 do OURS[kind] = true end
 local tcp_ports = DissectorTable.get("tcp.port")
 local ancp = tcp_ports:get_dissector(6068) -- Wireshark's own
 
--- A response (Result 3 or 4) nests at most 4 deep, a request 3.
+-- A response nests at most 4 deep, a request 3.
 local function show_body(s, item)
-    local response = ({ [3] = true, [4] = true })[math.floor(s(6, 2):uint() / 4096)]
-    show_list(s, 16, s:len(), item, response and 4 or 3, false)
+    show_list(s, 16, s:len(), item, is_response(s) and 4 or 3, false)
 end
 
 local function show_message(s, pinfo, tree)
@@ -385,7 +402,7 @@ local function show_message(s, pinfo, tree)
     if cut then what = what .. ", cut by the capture" end
     tell(pinfo, what)
     item:append_text(", " .. what)
-    if whole then show_header(s, item) end
+    if whole then show_header(s, item, not wrong) end
     if whole and not cut then show_body(s, item) else unread(s, whole and 16 or 0, n, item) end
     if wrong and not cut then item:add_proto_expert_info(unusable, wrong) end
     return n
