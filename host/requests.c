@@ -86,6 +86,7 @@ static void start_s0(void) {
 /* ---- one step */
 static uint8_t given[ANCP_MESSAGE + 1];
 
+/* a step that is not written as above ends the program */
 static void written_right(bool so) {
     if (!so) HOLDS(so);
 }
@@ -113,6 +114,7 @@ static uint32_t word(size_t at) {
 }
 
 static ancp_number message(size_t n, size_t room) {
+    written_right(n <= sizeof given);
     return ancp_card_message(&card, &tables, given, n, reply, room, &length);
 }
 
@@ -143,6 +145,7 @@ static const char *answer_of(const char *call) {
         ancp_card_port_text(out, sizeof out, &card, &tables, given[0]);
         return out;
     }
+    if (strchr("msfja", call[0])) length = SIZE_MAX; /* the call sets it */
     ancp_number number = call_of(call[0], n);
     HOLDS(length <= ROOM);
     at = (size_t)sprintf(out, length ? "%u " : "%u", (unsigned)number);
@@ -156,12 +159,14 @@ static void play(const char *name, const step *steps, size_t count) {
     now = "start";
     start_s0();
     for (size_t i = 0; i < count; i++) {
+        const char *answer;
         size_t beyond;
         now = steps[i].what;
         before = card;
         length = 0;
         memset(reply, 0xA5, sizeof reply);
-        TEXT(answer_of(steps[i].call), steps[i].answer);
+        answer = answer_of(steps[i].call);
+        TEXT(answer, steps[i].answer);
         for (beyond = length; beyond < sizeof reply && reply[beyond] == 0xA5;) beyond++;
         IS(beyond, sizeof reply);
         IS(memcmp(&card, &before, sizeof card) ? MOVED : KEPT, steps[i].card);
