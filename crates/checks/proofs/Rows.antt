@@ -27,14 +27,15 @@ use Rattle.card.specs.Cards.{Card, portAt, withPool}
 use Rattle.card.specs.declared.Terms.{Terms}
 use Rattle.card.specs.Parts.{HasTerms}
 use Rattle.card.proofs.Parts.{ports-are, is-up}
-use Rattle.checks.specs.Named.{needed, missing}
+use Rattle.rules.specs.Rules.{handled, resultOk, transactionOk, rulesOf}
+use Rattle.rules.specs.Named.{missing}
 use Rattle.checks.specs.declared.Verdict.{Verdict}
 use Rattle.checks.specs.declared.Verdict.the-variants.{Refused, Passed}
-use Rattle.checks.specs.Table.{handled, resultOk, idIn, numberOf, portNamed, Located, located, faults, namedRows, tableOf}
+use Rattle.checks.specs.Table.{idIn, numberOf, portNamed, Located, located, faults, namedRows, tableOf}
 
--- how many octets the missing types take
-abbrev lacks : ℕ → List ℕ → ℕ
-lacks kind s = length (missing (needed kind) (itemsOf s))
+-- how many types are missing
+abbrev absences : ℕ → List ℕ → ℕ
+absences kind s = length (missing (rulesOf kind) (itemsOf s))
 
 none-by : (n : ℕ) → ltb 0 n ≡ false → eqb n 0 ≡ true
 none-by n h = eq-eqb n 0 (omega (arith, ltb-false 0 n h))
@@ -43,18 +44,18 @@ some-by : (n : ℕ) → ltb 0 n ≡ true → eqb n 0 ≡ false
 some-by n h = ne-eqb n 0 (λ e. omega (arith, ltb-true 0 n h))
 
 module _ (ids : List ℕ) (card : Card) (kind : ℕ) (s : List ℕ) where
-  pub row-54 : ltb 0 (lacks kind s) ≡ true → Refused 0x54 ≡ namedRows ids card kind s
+  pub row-54 : ltb 0 (absences kind s) ≡ true → Refused 0x54 ≡ namedRows ids card kind s
   unfolding namedRows
-  row-54 h = rw (some-by (lacks kind s) h)
+  row-54 h = rw (some-by (absences kind s) h)
 
-  module _ (whole : ltb 0 (lacks kind s) ≡ false) where
+  module _ (whole : ltb 0 (absences kind s) ≡ false) where
     pub row-55 : ltb 0 (length (faults kind s)) ≡ true → Refused 0x55 ≡ namedRows ids card kind s
     unfolding namedRows
-    row-55 h = rw (none-by (lacks kind s) whole, some-by (length (faults kind s)) h)
+    row-55 h = rw (none-by (absences kind s) whole, some-by (length (faults kind s)) h)
 
     pub row-port : ltb 0 (length (faults kind s)) ≡ false → located card (portOf ids (card .head .«port_count») (idIn s)) ≡ namedRows ids card kind s
     unfolding namedRows
-    row-port h = rw (none-by (lacks kind s) whole, none-by (length (faults kind s)) h)
+    row-port h = rw (none-by (absences kind s) whole, none-by (length (faults kind s)) h)
 
 -- ---- the port by its number
 module _ (ids : List ℕ) (count : ℕ) (s : List ℕ) where
@@ -100,8 +101,9 @@ module _ (ids : List ℕ) (card : Card) (s : List ℕ) {named : ℕ} {up : Bool}
 pub record TablePassed (ids : List ℕ) (card : Card) (h : Header) (s : List ℕ) (p : ℕ) : Type 0 where
   pub known : handled (h .kind) ≡ true
   pub result : resultOk (h .kind) (h .result) ≡ true
+  pub numbered : transactionOk (h .kind) (h .transaction) ≡ true
   pub sound : listOk (depthOf (h .result)) false s ≡ true
-  pub whole : missing (needed (h .kind)) (itemsOf s) ≡ []
+  pub whole : missing (rulesOf (h .kind)) (itemsOf s) ≡ []
   pub faultless : faults (h .kind) s ≡ []
   pub found : portOf ids (card .head .«port_count») (idIn s) ≡ At p
   pub small : p < 64
@@ -112,21 +114,24 @@ pub record TablePassed (ids : List ℕ) (card : Card) (h : Header) (s : List ℕ
 pub record Sound (h : Header) (s : List ℕ) : Type 0 where
   pub known : handled (h .kind) ≡ true
   pub result : resultOk (h .kind) (h .result) ≡ true
+  pub numbered : transactionOk (h .kind) (h .transaction) ≡ true
   pub sound : listOk (depthOf (h .result)) false s ≡ true
 
 -- the row that refuses a message; those before it are passed
 pub data TableRefused (ids : List ℕ) (card : Card) (h : Header) (s : List ℕ) : ℕ → Type 0 where
   unhandled : handled (h .kind) ≡ false → TableRefused ids card h s 0x51
   unfit : handled (h .kind) ≡ true → resultOk (h .kind) (h .result) ≡ false → TableRefused ids card h s 0x2
-  broken : handled (h .kind) ≡ true → resultOk (h .kind) (h .result) ≡ true → listOk (depthOf (h .result)) false s ≡ false → TableRefused ids card h s 0x53
-  lacking : Sound h s → (missing (needed (h .kind)) (itemsOf s) ≡ [] → ⊥) → TableRefused ids card h s 0x54
-  faulty : Sound h s → missing (needed (h .kind)) (itemsOf s) ≡ [] → (faults (h .kind) s ≡ [] → ⊥) → TableRefused ids card h s 0x55
-  unknown : Sound h s → missing (needed (h .kind)) (itemsOf s) ≡ [] → faults (h .kind) s ≡ []
+  zero : handled (h .kind) ≡ true → resultOk (h .kind) (h .result) ≡ true → transactionOk (h .kind) (h .transaction) ≡ false → TableRefused ids card h s 0x2
+  broken : handled (h .kind) ≡ true → resultOk (h .kind) (h .result) ≡ true → transactionOk (h .kind) (h .transaction) ≡ true
+      → listOk (depthOf (h .result)) false s ≡ false → TableRefused ids card h s 0x53
+  lacking : Sound h s → (missing (rulesOf (h .kind)) (itemsOf s) ≡ [] → ⊥) → TableRefused ids card h s 0x54
+  faulty : Sound h s → missing (rulesOf (h .kind)) (itemsOf s) ≡ [] → (faults (h .kind) s ≡ [] → ⊥) → TableRefused ids card h s 0x55
+  unknown : Sound h s → missing (rulesOf (h .kind)) (itemsOf s) ≡ [] → faults (h .kind) s ≡ []
       → portOf ids (card .head .«port_count») (idIn s) ≡ Nothing → TableRefused ids card h s 0x500
-  down : {p : ℕ} → Sound h s → missing (needed (h .kind)) (itemsOf s) ≡ [] → faults (h .kind) s ≡ []
+  down : {p : ℕ} → Sound h s → missing (rulesOf (h .kind)) (itemsOf s) ≡ [] → faults (h .kind) s ≡ []
       → portOf ids (card .head .«port_count») (idIn s) ≡ At p → portAt card p .up ≡ false → TableRefused ids card h s 0x6
 
-empty : {A : Type 0} (l : List A) → length l ≡ 0 → l ≡ []
+pub empty : {A : Type 0} (l : List A) → length l ≡ 0 → l ≡ []
 empty [] e = refl
 empty (x ∷ l) e = absurd (omega arith)
 
@@ -138,13 +143,14 @@ module _ (ids : List ℕ) (card : Card) (h : Header) (s : List ℕ) where
   Tells (Refused code) = TableRefused ids card h s code
   Tells (Passed p) = TablePassed ids card h s p
 
-  module _ (past : Sound h s) (whole : missing (needed (h .kind)) (itemsOf s) ≡ []) (faultless : faults (h .kind) s ≡ []) where
+  module _ (past : Sound h s) (whole : missing (rulesOf (h .kind)) (itemsOf s) ≡ []) (faultless : faults (h .kind) s ≡ []) where
     up-tells : (p : ℕ) → portOf ids (card .head .«port_count») (idIn s) ≡ At p → (b : Bool) → portAt card p .up ≡ b → Tells (cond b (Passed p) (Refused 0x6))
     up-tells p e true u =
         let g = port-found ids (card .head .«port_count») (idIn s) e in
         record {
           known = past .known;
           result = past .result;
+          numbered = past .numbered;
           sound = past .sound;
           whole = whole;
           faultless = faultless;
@@ -160,24 +166,26 @@ module _ (ids : List ℕ) (card : Card) (h : Header) (s : List ℕ) where
     port-tells Nothing e = unknown past whole faultless e
     port-tells (At p) e = up-tells p e (portAt card p .up) refl
 
-  named-tells : Sound h s → (a b : Bool) → eqb (lacks (h .kind) s) 0 ≡ a → eqb (length (faults (h .kind) s)) 0 ≡ b
+  named-tells : Sound h s → (a b : Bool) → eqb (absences (h .kind) s) 0 ≡ a → eqb (length (faults (h .kind) s)) 0 ≡ b
       → Tells (cond a (cond b (located card (portOf ids (card .head .«port_count») (idIn s))) (Refused 0x55)) (Refused 0x54))
   named-tells past true true ha hb =
       port-tells past (empty _ (eqb-true _ _ ha)) (empty _ (eqb-true _ _ hb)) (portOf ids (card .head .«port_count») (idIn s)) refl
   named-tells past true false ha hb = faulty past (empty _ (eqb-true _ _ ha)) (filled _ (eqb-false _ _ hb))
   named-tells past false b ha hb = lacking past (filled _ (eqb-false _ _ ha))
 
-  rows-tell : (a b c : Bool) → handled (h .kind) ≡ a → resultOk (h .kind) (h .result) ≡ b → listOk (depthOf (h .result)) false s ≡ c
-      → Tells (cond a (cond b (cond c (namedRows ids card (h .kind) s) (Refused 0x53)) (Refused 0x2)) (Refused 0x51))
+  rows-tell : (a b c d : Bool) → handled (h .kind) ≡ a → resultOk (h .kind) (h .result) ≡ b → transactionOk (h .kind) (h .transaction) ≡ c
+      → listOk (depthOf (h .result)) false s ≡ d
+      → Tells (cond a (cond b (cond c (cond d (namedRows ids card (h .kind) s) (Refused 0x53)) (Refused 0x2)) (Refused 0x2)) (Refused 0x51))
   unfolding namedRows
-  rows-tell true true true ha hb hc = named-tells (record { known = ha; result = hb; sound = hc }) _ _ refl refl
-  rows-tell true true false ha hb hc = broken ha hb hc
-  rows-tell true false c ha hb hc = unfit ha hb
-  rows-tell false b c ha hb hc = unhandled ha
+  rows-tell true true true true ha hb hc hd = named-tells (record { known = ha; result = hb; numbered = hc; sound = hd }) _ _ refl refl
+  rows-tell true true true false ha hb hc hd = broken ha hb hc hd
+  rows-tell true true false d ha hb hc hd = zero ha hb hc
+  rows-tell true false c d ha hb hc hd = unfit ha hb
+  rows-tell false b c d ha hb hc hd = unhandled ha
 
   tells : Tells (tableOf ids card h s)
   unfolding tableOf
-  tells = rows-tell _ _ _ refl refl refl
+  tells = rows-tell _ _ _ _ refl refl refl refl
 
   pub passed-tells : {p : ℕ} → tableOf ids card h s ≡ Passed p → TablePassed ids card h s p
   passed-tells e = rw e at tells
@@ -191,4 +199,4 @@ module _ (ids : List ℕ) (card : Card) (h : Header) (s : List ℕ) where
 
   pub passes : {p : ℕ} → TablePassed ids card h s p → tableOf ids card h s ≡ Passed p
   unfolding tableOf namedRows located
-  passes t = rw (t .known, t .result, t .sound, t .whole, t .faultless, t .found, t .up)
+  passes t = rw (t .known, t .result, t .numbered, t .sound, t .whole, t .faultless, t .found, t .up)

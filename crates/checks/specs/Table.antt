@@ -3,7 +3,7 @@
 -- definitions.
 use Prim.Native.Nat.{ℕ, _<_}
 use mathlib.Core.Path.{_≡_}
-use mathlib.Core.Bool.{Bool, true, false, cond, _||_}
+use mathlib.Core.Bool.{Bool, false, cond, _||_}
 use mathlib.Core.List.{List, [], _∷_}
 use lib.ListN.{length}
 use lib.Dec.{eqb}
@@ -13,27 +13,16 @@ use Rattle.items.specs.Items.{Item, itemsOf, firstOf}
 use Rattle.fields.specs.Fields.{circuitId}
 use Rattle.writers.specs.Tlvs.{tlvOf, targetOf}
 use Rattle.replies.specs.Replies.{refusalOf}
+use Rattle.rules.specs.Rules.{handled, resultOk, transactionOk, rulesOf}
+use Rattle.rules.specs.Named.{missing, bares, fromFault}
 use Rattle.rows.specs.declared.Found.{Found}
 use Rattle.rows.specs.declared.Found.the-variants.{At, Nothing}
 use Rattle.circuits.specs.Circuits.{portOf}
 use Rattle.card.specs.Cards.{Card, portAt}
-use Rattle.checks.specs.Named.{needed, missing, singleOf, fromFault}
 use Rattle.checks.specs.declared.Verdict.{Verdict}
 use Rattle.checks.specs.declared.Verdict.the-variants.{Refused, Passed}
 
 -- ---- when
-
--- 144, 146, 147, 148 and 149 are handled
-unfoldable pub handled : ℕ → Bool
-handled kind = eqb kind 144 || (eqb kind 146 || (eqb kind 147 || (eqb kind 148 || eqb kind 149)))
-
--- Result 1 or 2 (144), 0 (146), 2 (148, 149). That of a 147 was looked at before
-unfoldable pub resultOk : ℕ → ℕ → Bool
-resultOk kind result =
-    cond (eqb kind 144) (eqb result 1 || eqb result 2)
-    (cond (eqb kind 146) (eqb result 0)
-    (cond (eqb kind 147) true
-    (eqb result 2)))
 
 -- the circuit id of the message's Target
 unfoldable pub idIn : List ℕ → List ℕ
@@ -60,25 +49,27 @@ located card (At p) = cond (portAt card p .up) (Passed p) (Refused 0x6)
 
 -- the TLVs from the first one at fault on, in a message of a type
 abbrev pub faults : ℕ → List ℕ → List Item
-faults kind s = fromFault (singleOf kind) false false (itemsOf s)
+faults kind s = fromFault (rulesOf kind) [] (itemsOf s)
 
 -- the rows about TLVs: 0x54, 0x55, and then the port
 unfoldable pub namedRows : List ℕ → Card → ℕ → List ℕ → Verdict
 namedRows ids card kind s =
-    cond (eqb (length (missing (needed kind) (itemsOf s))) 0)
+    cond (eqb (length (missing (rulesOf kind) (itemsOf s))) 0)
     (cond (eqb (length (faults kind s)) 0)
     (located card (portOf ids (card .head .«port_count») (idIn s)))
     (Refused 0x55))
     (Refused 0x54)
 
--- 0x51, 0x2, 0x53, and then the others
+-- 0x51; 0x2 for the Result and then for transaction 0; 0x53; and then the others
 unfoldable pub tableOf : List ℕ → Card → Header → List ℕ → Verdict
 tableOf ids card h s =
     cond (handled (h .kind))
     (cond (resultOk (h .kind) (h .result))
+    (cond (transactionOk (h .kind) (h .transaction))
     (cond (listOk (depthOf (h .result)) false s)
     (namedRows ids card (h .kind) s)
     (Refused 0x53))
+    (Refused 0x2))
     (Refused 0x2))
     (Refused 0x51)
 
@@ -93,7 +84,7 @@ copyOf (i ∷ is) = tlvOf (i .kind) (i .content)
 -- the circuit id alone; 0x51, 0x2 and 0x53 nothing
 unfoldable pub enclosedOf : ℕ → List ℕ → ℕ → List ℕ
 enclosedOf kind s code =
-    cond (eqb code 0x54) (missing (needed kind) (itemsOf s))
+    cond (eqb code 0x54) (bares (missing (rulesOf kind) (itemsOf s)))
     (cond (eqb code 0x55) (copyOf (faults kind s))
     (cond (eqb code 0x500 || eqb code 0x6) (targetOf (idIn s))
     []))

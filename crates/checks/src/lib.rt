@@ -1,24 +1,21 @@
 // The rows of the card's table that all messages go through, and the refusals that answer them.
-use fields::ALLOCATION;
-use fields::COMMAND;
-use fields::REQUEST;
 use fields::TARGET;
 use header::Header;
 use rows::Found;
 use tlv::First;
 ghost use mathlib.Core.Path.{_≡_};
-ghost use mathlib.Core.Bool.{false};
-ghost use mathlib.Core.List.{List, [], _∷_};
+ghost use mathlib.Core.List.{List};
 ghost use Prim.Native.Nat.{ℕ, _≤_};
 ghost use lib.ListN.{length};
 ghost use lib.Dec.{ltb};
 ghost use Rattle.octets.specs.Writing.{Wrote};
 ghost use Rattle.items.specs.Items.{itemsOf};
+ghost use Rattle.rules.specs.Rules.{rulesOf};
+ghost use Rattle.rules.specs.Named.{missing, bares};
 ghost use Rattle.circuits.specs.Circuits.{portOf};
 ghost use Rattle.replies.specs.Replies.{refusalOf};
 ghost use Rattle.card.specs.Cards.{Card};
-ghost use Rattle.checks.specs.Named.{alsoNeeded, needed, missing, singleOf, fromFault};
-ghost use Rattle.checks.specs.Table.{handled, resultOk, idIn, portNamed, Located, located, faults, namedRows, tableOf, copyOf, enclosedOf, refusedOf};
+ghost use Rattle.checks.specs.Table.{idIn, portNamed, Located, located, faults, namedRows, tableOf, copyOf, enclosedOf, refusedOf};
 
 pub enum Verdict {
     // The result code of the row that refuses the message.
@@ -42,10 +39,13 @@ pub fn port_named(ids: &[u8; 4096], port_count: usize, tlvs: &[u8]) -> usize
 pub fn check_table(named: usize, up: bool, h: Header, tlvs: &[u8]) -> Verdict
     ensures { λ r. ⌜ ((ids : List ℕ) (card : Card) → Located ids card (now (tlvs .entry)) named up → r ≡ tableOf ids card h (now (tlvs .entry))) ⌝ }
 {
-    if !handled(h.kind) {
+    if !rules::handled(h.kind) {
         return Verdict::Refused(0x51);
     }
-    if !result_ok(h.kind, h.result) {
+    if !rules::result_ok(h.kind, h.result) {
+        return Verdict::Refused(0x2);
+    }
+    if !rules::transaction_ok(h.kind, h.transaction) {
         return Verdict::Refused(0x2);
     }
     if !tlv::check_list(tlvs, tlv::depth_of(h.result), false) {
@@ -57,7 +57,7 @@ pub fn check_table(named: usize, up: bool, h: Header, tlvs: &[u8]) -> Verdict
 fn check_named(named: usize, up: bool, kind: u8, tlvs: &[u8]) -> Verdict
     ensures { λ r. ⌜ ((ids : List ℕ) (card : Card) → Located ids card (now (tlvs .entry)) named up → r ≡ namedRows ids card kind (now (tlvs .entry))) ⌝ }
 {
-    if is_missing(kind, tlvs) {
+    if rules::is_missing(kind, tlvs) {
         return Verdict::Refused(0x54);
     }
     if has_fault(kind, tlvs) {
@@ -78,33 +78,6 @@ fn check_port(named: usize, up: bool) -> Verdict
     Verdict::Refused(0x6)
 }
 
-fn handled(kind: u8) -> bool
-    ensures { λ r. ⌜ r ≡ handled kind ⌝ }
-{
-    if kind == 144 {
-        return true;
-    }
-    if kind < 146 {
-        return false;
-    }
-    kind <= 149
-}
-
-fn result_ok(kind: u8, result: u8) -> bool
-    ensures { λ r. ⌜ r ≡ resultOk kind result ⌝ }
-{
-    if kind == 144 {
-        return result == 1 || result == 2;
-    }
-    if kind == 146 {
-        return result == 0;
-    }
-    if kind == 147 {
-        return true;
-    }
-    result == 2
-}
-
 // The circuit id of the message's Target; empty where there is none.
 pub fn id_in<'a>(tlvs: &'a [u8]) -> &'a [u8]
     ensures { λ r. ⌜ now r ≡ idIn (now (tlvs .entry)) ⌝ }
@@ -112,38 +85,11 @@ pub fn id_in<'a>(tlvs: &'a [u8]) -> &'a [u8]
     fields::circuit_id(items::first_of(tlvs, TARGET))
 }
 
-// ---- the TLVs that a message's rules name
-
-// One of the types that a message needs is missing.
-fn is_missing(kind: u8, tlvs: &[u8]) -> bool
-    ensures { λ r. ⌜ r ≡ ltb 0 (length (missing (needed kind) (itemsOf (now (tlvs .entry))))) ⌝ }
-{
-    if items::count_of(tlvs, TARGET) == 0 {
-        return true;
-    }
-    also_needed_missing(kind, tlvs)
-}
-
-fn also_needed_missing(kind: u8, tlvs: &[u8]) -> bool
-    ensures { λ r. ⌜ r ≡ ltb 0 (length (missing (alsoNeeded kind) (itemsOf (now (tlvs .entry))))) ⌝ }
-{
-    if kind == 144 {
-        return items::count_of(tlvs, COMMAND) == 0;
-    }
-    if kind == 146 {
-        return items::count_of(tlvs, REQUEST) == 0;
-    }
-    if kind == 147 {
-        return items::count_of(tlvs, ALLOCATION) == 0;
-    }
-    false
-}
-
 // A TLV is at fault.
 fn has_fault(kind: u8, tlvs: &[u8]) -> bool
     ensures { λ r. ⌜ r ≡ ltb 0 (length (faults kind (now (tlvs .entry)))) ⌝ }
 {
-    let next = tlv::first_tlv(faults(kind, tlvs));
+    let next = tlv::first_tlv(rules::from_fault(kind, tlvs));
     match next {
         First::End => false,
         First::Broken => false,
@@ -152,61 +98,6 @@ fn has_fault(kind: u8, tlvs: &[u8]) -> bool
             len: _,
             size: _,
         } => true,
-    }
-}
-
-// The part from the first TLV at fault on.
-fn faults<'a>(kind: u8, tlvs: &'a [u8]) -> &'a [u8]
-    ensures { λ r. ⌜ itemsOf (now r) ≡ faults kind (now (tlvs .entry)) ⌝ }
-{
-    from_fault(tlvs, single_of(kind))
-}
-
-fn single_of(kind: u8) -> u16
-    ensures { λ r. ⌜ r ≡ singleOf kind ⌝ }
-{
-    if kind == 146 {
-        return REQUEST;
-    }
-    if kind == 147 {
-        return ALLOCATION;
-    }
-    TARGET
-}
-
-// The same of the Targets, and of the TLVs of type `single`.
-fn from_fault<'a>(tlvs: &'a [u8], single: u16) -> &'a [u8]
-    ensures { λ r. ⌜ itemsOf (now r) ≡ fromFault single false false (itemsOf (now (tlvs .entry))) ⌝ }
-{
-    let mut target = false;
-    let mut other = false;
-    let mut at: usize = 0;
-    loop {
-        let step = reader::step_at(tlvs, at);
-        let next = step.first;
-        match next {
-            First::End => return &tlvs[at..],
-            First::Broken => return &tlvs[at..],
-            First::Tlv { kind, len, size: _ } => {
-                let b = at + 4;
-                let e = b + len;
-                if kind == TARGET {
-                    if target || fields::circuit_ids(&tlvs[b..e]) != 1 {
-                        return &tlvs[at..];
-                    }
-                    target = true;
-                    at = step.next;
-                    continue;
-                }
-                if kind == single {
-                    if other || !fields::length_ok(single, &tlvs[b..e]) {
-                        return &tlvs[at..];
-                    }
-                    other = true;
-                }
-                at = step.next;
-            }
-        }
     }
 }
 
@@ -236,7 +127,7 @@ fn refuse_fault(reply: &mut [u8], h: Header, tlvs: &[u8]) -> usize
     requires { ⌜ (4608 ≤ length (now reply)) × (length (now tlvs) ≤ 4096) ⌝ }
     ensures { λ r. ⌜ Wrote (refusalOf h 0x55 (copyOf (faults (h .kind) (now (tlvs .entry))))) r (now (reply .entry)) (now (reply .exit)) ⌝ }
 {
-    let t = faults(h.kind, tlvs);
+    let t = rules::from_fault(h.kind, tlvs);
     let next = tlv::first_tlv(t);
     match next {
         First::End => replies::refuse(reply, h, 0x55),
@@ -250,44 +141,9 @@ fn refuse_fault(reply: &mut [u8], h: Header, tlvs: &[u8]) -> usize
 
 fn refuse_missing(reply: &mut [u8], h: Header, tlvs: &[u8]) -> usize
     requires { ⌜ 4608 ≤ length (now reply) ⌝ }
-    ensures { λ r. ⌜ Wrote (refusalOf h 0x54 (missing (needed (h .kind)) (itemsOf (now (tlvs .entry))))) r (now (reply .entry)) (now (reply .exit)) ⌝ }
+    ensures { λ r. ⌜ Wrote (refusalOf h 0x54 (bares (missing (rulesOf (h .kind)) (itemsOf (now (tlvs .entry)))))) r (now (reply .entry)) (now (reply .exit)) ⌝ }
 {
-    let n = put_missing(&mut reply[24..], h.kind, tlvs);
+    let n = rules::put_missing(&mut reply[24..], h.kind, tlvs);
     replies::put_refusal(reply, h, 0x54, n);
     24 + n
-}
-
-// A bare header of each missing type, each directly behind the one before it.
-fn put_missing(buf: &mut [u8], kind: u8, tlvs: &[u8]) -> usize
-    requires { ⌜ 8 ≤ length (now buf) ⌝ }
-    ensures { λ r. ⌜ Wrote (missing (needed kind) (itemsOf (now (tlvs .entry)))) r (now (buf .entry)) (now (buf .exit)) ⌝ }
-{
-    let n = put_if_missing(buf, TARGET, tlvs);
-    n + put_also_needed(&mut buf[n..], kind, tlvs)
-}
-
-fn put_also_needed(buf: &mut [u8], kind: u8, tlvs: &[u8]) -> usize
-    requires { ⌜ 4 ≤ length (now buf) ⌝ }
-    ensures { λ r. ⌜ Wrote (missing (alsoNeeded kind) (itemsOf (now (tlvs .entry)))) r (now (buf .entry)) (now (buf .exit)) ⌝ }
-{
-    if kind == 144 {
-        return put_if_missing(buf, COMMAND, tlvs);
-    }
-    if kind == 146 {
-        return put_if_missing(buf, REQUEST, tlvs);
-    }
-    if kind == 147 {
-        return put_if_missing(buf, ALLOCATION, tlvs);
-    }
-    0
-}
-
-fn put_if_missing(buf: &mut [u8], kind: u16, tlvs: &[u8]) -> usize
-    requires { ⌜ 4 ≤ length (now buf) ⌝ }
-    ensures { λ r. ⌜ Wrote (missing (kind ∷ []) (itemsOf (now (tlvs .entry)))) r (now (buf .entry)) (now (buf .exit)) ⌝ }
-{
-    if items::count_of(tlvs, kind) == 0 {
-        return writers::put_bare(buf, kind);
-    }
-    0
 }

@@ -5,7 +5,7 @@
 --     first-alone              after the first alone, the second flow is not active
 -- And a 146 for port 1 (`other-asked`).
 -- Assumes nothing.
-use Prim.Native.Nat.{ℕ}
+use Prim.Native.Nat.{ℕ, _≤_}
 use mathlib.Core.Path.{_≡_, refl, sym, ap, subst, _∙_}
 use mathlib.Core.Logic.{inl, inr}
 use mathlib.Core.Bool.{Bool, true, false}
@@ -32,7 +32,7 @@ use Rattle.commands.specs.Directives.{flowsAsked, flowCount, flowContent, shape
 use Rattle.commands.specs.Directives.Directive.{add}
 use Rattle.commands.specs.Commands.{ranOf}
 use Rattle.control.specs.Control.{commandsIn}
-use Rattle.demand3.specs.Reads.{kindIn, resultIn, tlvsIn, portIn}
+use Rattle.demand3.specs.Reads.{kindIn, resultIn, transactionIn, tlvsIn, portIn}
 use Rattle.demand3.specs.Ledger.{Line, Ledger, write, holds, begins, acts, actsAll}
 use Rattle.demand3.specs.Claim.{Starts, Wanted, Succeeds, AllSucceed, ledgerAfter, Reaches}
 use Rattle.demand3.proofs.Figures.{reads-active}
@@ -61,6 +61,10 @@ added-kind = refl
 added-result : resultIn both-added ≡ 1
 unfolding resultIn headerIn
 added-result = refl
+
+added-transaction : 1 ≤ transactionIn both-added
+unfolding transactionIn headerIn
+added-transaction = omega arith
 
 in-order : (sizeOk both-added ≡ true) × (usable both-added ≡ true) × (listOk 3 false s ≡ true)
 unfolding sizeOk usable every listOk allTlvs insideOk heldOk insideOf foldTlvs foldUpTo foldBy firstTlv
@@ -127,6 +131,7 @@ second-reached =
         size = in-order .0;
         header = in-order .1;
         is-kind = added-kind;
+        transaction = added-transaction;
         lengths = in-order .2;
         target = one-target .0;
         circuit = one-target .1;

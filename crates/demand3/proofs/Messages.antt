@@ -16,7 +16,8 @@ use Rattle.rows.specs.declared.Found.the-variants.{At}
 use Rattle.circuits.specs.Circuits.{idAt, portOf}
 use Rattle.card.specs.Cards.{Card}
 use Rattle.card.specs.Outcome.{Outcome}
-use Rattle.checks.specs.Table.{idIn, resultOk}
+use Rattle.rules.specs.Rules.{resultOk}
+use Rattle.checks.specs.Table.{idIn}
 use Rattle.control.specs.Control.{commandsIn, controlled}
 use Rattle.messages.specs.Messages.{receivedOf}
 use Rattle.demand3.specs.Calls.{Tables, ours, seen, outcomeOf}

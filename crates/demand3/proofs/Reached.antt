@@ -10,7 +10,7 @@ use mathlib.Core.List.{List, [], _∷_}
 use native.Mathlib.Omega.{arith}
 use lib.ListN.{length, getD, drop, length-append}
 use lib.Dec.{eqb}
-use borrow.Author.Tests.{eq-eqb, ne-eqb, le-ltb}
+use borrow.Author.Tests.{eq-eqb, ne-eqb, le-ltb, lt-ltb}
 use Rattle.octets.proofs.Tests.{taken, left}
 use Rattle.header.specs.declared.Header.{Header}
 use Rattle.header.specs.Header.{headerIn, headIn}
@@ -21,45 +21,21 @@ use Rattle.fields.specs.Fields.{circuitIds, lengthOk}
 use Rattle.circuits.specs.Circuits.{portOf}
 use Rattle.card.specs.Cards.{Card}
 use Rattle.checks.specs.declared.Verdict.the-variants.{Refused, Passed}
-use Rattle.checks.specs.Named.{alsoNeeded, needed, missing, singleOf, fromFault}
-use Rattle.checks.specs.Table.{handled, resultOk, idIn, located, faults, namedRows, tableOf}
+use Rattle.rules.specs.declared.Rule.{Rule}
+use Rattle.rules.specs.Rules.{handled, resultOk, transactionOk, rule, rulesOf}
+use Rattle.rules.specs.Named.{lacks, missing, stood, atFault, fromFault}
+use Rattle.rules.proofs.Faults.{no-fault, commands-free}
+use Rattle.checks.specs.Table.{idIn, located, faults, namedRows, tableOf}
 use Rattle.control.specs.Control.{controlled}
 use Rattle.queries.specs.Queries.{flowQuery}
 use Rattle.messages.specs.Messages.{isAnswer, isNotice, byType, requested, byResult, byHead, receivedOf}
 use Rattle.demand3.specs.Calls.{Tables}
-use Rattle.demand3.specs.Reads.{kindIn, resultIn, tlvsIn, portIn}
+use Rattle.demand3.specs.Reads.{kindIn, resultIn, transactionIn, tlvsIn, portIn}
 use Rattle.demand3.specs.Ledger.{Line, Ledger, actsAll}
 use Rattle.demand3.specs.Claim.{Sound, Reaches}
 use Rattle.demand3.proofs.Agree.{Agree, write-same}
 use Rattle.demand3.proofs.Command.{all-up}
 use Rattle.demand3.proofs.Views.{port-below}
-
--- ---- no fault among the TLVs of a 144
-no-more : (target other : Bool) (is : List Item) → countOf 0x1000 is ≡ 0 → fromFault 0x1000 target other is ≡ []
-unfolding countOf ofType fromFault
-no-more target other [] n = refl
-no-more target other (i ∷ is) n = go (eqb (i .kind) 0x1000) n (no-more target other is)
-  where
-    go : (b : Bool) → length (cond b (i .content ∷ ofType 0x1000 is) (ofType 0x1000 is)) ≡ 0
-        → (length (ofType 0x1000 is) ≡ 0 → fromFault 0x1000 target other is ≡ [])
-        → cond b (cond (target || not (eqb (circuitIds (i .content)) 1)) (i ∷ is) (fromFault 0x1000 true other is))
-        (cond b (cond (other || not (lengthOk 0x1000 (i .content))) (i ∷ is) (fromFault 0x1000 target true is)) (fromFault 0x1000 target other is)) ≡ []
-    go true n ih = absurd (omega arith)
-    go false n ih = ih n
-
-no-fault : (other : Bool) (is : List Item) → countOf 0x1000 is ≡ 1 → circuitIds (firstOf 0x1000 is) ≡ 1 → fromFault 0x1000 false other is ≡ []
-unfolding countOf ofType firstOf fromFault
-no-fault other [] n c = refl
-no-fault other (i ∷ is) n c = go (eqb (i .kind) 0x1000) n c (no-more true other is) (no-fault other is)
-  where
-    go : (b : Bool) → length (cond b (i .content ∷ ofType 0x1000 is) (ofType 0x1000 is)) ≡ 1
-        → circuitIds (getD (cond b (i .content ∷ ofType 0x1000 is) (ofType 0x1000 is)) 0 []) ≡ 1
-        → (length (ofType 0x1000 is) ≡ 0 → fromFault 0x1000 true other is ≡ [])
-        → (length (ofType 0x1000 is) ≡ 1 → circuitIds (getD (ofType 0x1000 is) 0 []) ≡ 1 → fromFault 0x1000 false other is ≡ [])
-        → cond b (cond (not (eqb (circuitIds (i .content)) 1)) (i ∷ is) (fromFault 0x1000 true other is))
-        (cond b (cond (other || not (lengthOk 0x1000 (i .content))) (i ∷ is) (fromFault 0x1000 false true is)) (fromFault 0x1000 false other is)) ≡ []
-    go true n c rest ih = rw (eq-eqb (circuitIds (i .content)) 1 c) (rest (omega arith))
-    go false n c rest ih = ih n c
 
 -- ---- past the table
 module _ (ids channels : List ℕ) (card : Card) (h : Header) (s : List ℕ) (p : ℕ) where
@@ -93,26 +69,27 @@ module _ (t : Tables) (card : Card) (l : Ledger) (a : Agree t card l) (m : List 
         ∙ ap (located card) (r .port)
         ∙ ap (λ (b : Bool). cond b (Passed p) (Refused 0x6)) (a .at p (sound-below .1) .is-up ∙ up)
 
-    module _ (single : singleOf kind ≡ 0x1000) (complete : length (missing (needed kind) (itemsOf s)) ≡ 0) where
-      none-faulty : length (faults kind s) ≡ 0
-      unfolding tlvsIn
-      none-faulty =
-          ap (λ (n : ℕ). length (fromFault n false false (itemsOf s))) single ∙ ap length (no-fault false (itemsOf s) (r .target) (r .circuit))
+    module _ (complete : length (missing (rulesOf kind) (itemsOf s)) ≡ 0) (faultless : faults kind s ≡ []) where
+      is-numbered : (kind ≡ 147 → ⊥) → transactionOk kind (headerIn m .transaction) ≡ true
+      unfolding transactionOk transactionIn
+      is-numbered other = rw (ne-eqb kind 147 other) (lt-ltb 0 (headerIn m .transaction) (r .transaction))
 
-      passed : handled kind ≡ true → resultOk kind (resultIn m) ≡ true → depthOf (resultIn m) ≡ 3 → tableOf (t .ids) card (headerIn m) s ≡ Passed p
+      passed : handled kind ≡ true → resultOk kind (resultIn m) ≡ true → (kind ≡ 147 → ⊥) → depthOf (resultIn m) ≡ 3
+          → tableOf (t .ids) card (headerIn m) s ≡ Passed p
       unfolding tableOf namedRows kindIn resultIn
-      passed known ok depth =
+      passed known ok other depth =
           rw (r .is-kind)
           (rw (
             known,
             ok,
+            is-numbered other,
             depth,
             r .lengths,
-            eq-eqb (length (missing (needed kind) (itemsOf s))) 0 complete,
-            eq-eqb (length (faults kind s)) 0 none-faulty,
+            eq-eqb (length (missing (rulesOf kind) (itemsOf s))) 0 complete,
+            eq-eqb (length (faults kind s)) 0 (ap length faultless),
           ) located-there)
 
-      -- with the right Result, and with all that it needs, it is carried out
+      -- with the right Result, with all that it needs and nothing at fault, it is carried out
       pub sound-comes : handled kind ≡ true → resultOk kind (resultIn m) ≡ true → depthOf (resultIn m) ≡ 3
           → (kind ≡ 147 → ⊥) → isAnswer (resultIn m) ≡ false → (eqb kind 144 && eqb (resultIn m) 0) ≡ false → (space : ℕ) → 4608 ≤ space
           → receivedOf (t .ids) (t .channels) card m space ≡ byType (t .ids) (t .channels) card (headerIn m) s p
@@ -120,7 +97,7 @@ module _ (t : Tables) (card : Card) (l : Ledger) (a : Agree t card l) (m : List 
       sound-comes known ok depth other n z space k =
           rw (le-ltb space 4608 k, r .size, r .header)
           (carried-out (t .ids) (t .channels) card (headerIn m) s p (λ e. other (sym (r .is-kind) ∙ e)) n
-          (ap (λ (j : ℕ). eqb j 144 && eqb (headerIn m .result) 0) (r .is-kind) ∙ z) (passed known ok depth))
+          (ap (λ (j : ℕ). eqb j 144 && eqb (headerIn m .result) 0) (r .is-kind) ∙ z) (passed known ok other depth))
 
 -- ---- what a message that reaches an Add comes to
 module _ (t : Tables) (card : Card) (l : Ledger) (a : Agree t card l) (m : List ℕ) (p : ℕ) (f : Flow) (before after : List (List ℕ))
@@ -136,17 +113,22 @@ module _ (t : Tables) (card : Card) (l : Ledger) (a : Agree t card l) (m : List 
   result-by : (C : ℕ → Type 0) → C 1 → C 2 → C (resultIn m)
   result-by C x y = ⊎-elim (λ (e : resultIn m ≡ 1). subst C (sym e) x) (λ (e : resultIn m ≡ 2). subst C (sym e) y) (r .result)
 
-  none-missing : length (missing (needed 144) (itemsOf (drop 16 m))) ≡ 0
-  unfolding missing alsoNeeded countOf
+  none-missing : length (missing (rulesOf 144) (itemsOf (drop 16 m))) ≡ 0
+  unfolding missing lacks rulesOf countOf
   none-missing =
       let is : List Item = itemsOf (drop 16 m) in
       let n : length (ofType 0x0011 is) ≡ length before + suc (length after) = ap length (r .commands) ∙ length-append before (r .here ∷ after) in
       rw (ne-eqb (length (ofType 0x1000 is)) 0 (some-target t card l a m 144 p (r .sound)), ne-eqb (length (ofType 0x0011 is)) 0 (λ e. omega arith))
 
+  none-faulty : faults 144 (drop 16 m) ≡ []
+  unfolding rulesOf tlvsIn stood
+  none-faulty =
+      no-fault (rule 0x0011 true false ∷ []) commands-free [] (itemsOf (drop 16 m)) refl (r .sound .target) (r .sound .circuit)
+
   pub reached : (space : ℕ) → 4608 ≤ space → receivedOf (t .ids) (t .channels) card m space ≡ controlled (t .ids) (t .channels) card (headerIn m) p (drop 16 m)
-  unfolding singleOf handled resultOk isAnswer byType kindIn
+  unfolding handled resultOk isAnswer byType kindIn
   reached space k =
-      sound-comes t card l a m 144 p (r .sound) reached-up refl none-missing refl (result-by (λ n. (eqb n 1 || eqb n 2) ≡ true) refl refl)
+      sound-comes t card l a m 144 p (r .sound) reached-up none-missing none-faulty refl (result-by (λ n. (eqb n 1 || eqb n 2) ≡ true) refl refl)
       (result-by (λ n. depthOf n ≡ 3) refl refl) (λ e. omega arith) (result-by (λ n. isAnswer n ≡ false) refl refl)
       (result-by (λ n. eqb n 0 ≡ false) refl refl) space k
       ∙ sym (taken (eqb (headerIn m .kind) 144) _ _ (eq-eqb (headerIn m .kind) 144 (r .sound .is-kind)))
@@ -154,16 +136,20 @@ module _ (t : Tables) (card : Card) (l : Ledger) (a : Agree t card l) (m : List 
 -- ---- what a Multicast Flow Query comes to
 module _ (t : Tables) (card : Card) (l : Ledger) (a : Agree t card l) (m : List ℕ) (p : ℕ) (r : Sound t m 149 p) (two : resultIn m ≡ 2)
     (up : l p .isUp ≡ true) where
-  none-missing-149 : length (missing (needed 149) (itemsOf (drop 16 m))) ≡ 0
-  unfolding missing alsoNeeded
+  none-missing-149 : length (missing (rulesOf 149) (itemsOf (drop 16 m))) ≡ 0
+  unfolding missing lacks rulesOf
   none-missing-149 = rw (ne-eqb (countOf 0x1000 (itemsOf (drop 16 m))) 0 (some-target t card l a m 149 p r))
 
+  none-faulty-149 : faults 149 (drop 16 m) ≡ []
+  unfolding rulesOf tlvsIn stood atFault
+  none-faulty-149 = no-fault [] (λ before i n. refl) [] (itemsOf (drop 16 m)) refl (r .target) (r .circuit)
+
   pub flows-queried : (space : ℕ) → 4608 ≤ space → receivedOf (t .ids) (t .channels) card m space ≡ flowQuery (t .ids) (t .channels) card (headerIn m) p
-  unfolding singleOf handled resultOk isAnswer byType kindIn
+  unfolding handled resultOk isAnswer byType kindIn
   flows-queried space k =
       let by : (C : ℕ → Type 0) → C 2 → C (resultIn m) = λ C x. subst C (sym two) x in
       let other : (n : ℕ) → (149 ≡ n → ⊥) → eqb (headerIn m .kind) n ≡ false = λ n d. ne-eqb (headerIn m .kind) n (λ e. d (sym (r .is-kind) ∙ e)) in
-      sound-comes t card l a m 149 p r up refl none-missing-149 refl (by (λ n. eqb n 2 ≡ true) refl) (by (λ n. depthOf n ≡ 3) refl)
+      sound-comes t card l a m 149 p r up none-missing-149 none-faulty-149 refl (by (λ n. eqb n 2 ≡ true) refl) (by (λ n. depthOf n ≡ 3) refl)
       (λ e. omega arith) (by (λ n. isAnswer n ≡ false) refl) refl space k
       ∙ sym (left (eqb (headerIn m .kind) 144) _ _ (other 144 (λ e. omega arith)))
       ∙ sym (left (eqb (headerIn m .kind) 146) _ _ (other 146 (λ e. omega arith)))

@@ -18,8 +18,11 @@ use Rattle.replies.specs.Replies.{replyHeader, refusalOf, successOf, amountRepl
 use Rattle.rows.specs.declared.Found.the-variants.{At}
 use Rattle.circuits.specs.Circuits.{idAt, portOf}
 use Rattle.tables.proofs.Tables.{own-port}
-use Rattle.checks.specs.Named.{alsoNeeded, missing, singleOf, fromFault}
-use Rattle.checks.specs.Table.{idIn, copyOf, enclosedOf, refusedOf}
+use Rattle.rules.specs.declared.Rule.{Rule}
+use Rattle.rules.specs.Rules.{rulesOf}
+use Rattle.rules.specs.Named.{lacks, missing, bares}
+use Rattle.rules.proofs.Faults.{EachRule, OfFirst, fault-named}
+use Rattle.checks.specs.Table.{idIn, faults, copyOf, enclosedOf, refusedOf}
 use Rattle.control.specs.Control.{failureOf}
 use Rattle.queries.specs.Queries.{flowsReply, flowTlvs}
 use Rattle.readback.proofs.Tlv.{items-none, items-back}
@@ -139,32 +142,35 @@ some-unnumbered : (b : Bool) (v w : List ℕ) → Unnumbered v → Unnumbered w 
 some-unnumbered true v w f g = f
 some-unnumbered false v w f g = g
 
--- the first TLV at fault of a 144 is a Target
-target-unnumbered : (i : Item) (is js ks ls : List Item) (b u v : Bool) → eqb (i .kind) 0x1000 ≡ b → Unnumbered (copyOf js) → Unnumbered (copyOf ls)
-    → Unnumbered (copyOf (cond b (cond u (i ∷ is) js) (cond b (cond v (i ∷ is) ks) ls)))
-unfolding copyOf
-target-unnumbered i is js ks ls true true v e f g = let t : i .kind ≡ 0x1000 = eqb-true (i .kind) 0x1000 e in tlv-unnumbered (i .kind) (i .content) (λ k. omega arith)
-target-unnumbered i is js ks ls true false v e f g = f
-target-unnumbered i is js ks ls false u v e f g = g
+-- the first TLV at fault of a 144 is a Target or a Command
+abbrev Unlike : ℕ → Type 0
+Unlike k = k ≡ 0x0022 → ⊥
 
-copy-unnumbered : (target other : Bool) (is : List Item) → Unnumbered (copyOf (fromFault 0x1000 target other is))
-unfolding fromFault copyOf
-copy-unnumbered target other [] = none-unnumbered
-copy-unnumbered target other (i ∷ is) =
-    target-unnumbered i is (fromFault 0x1000 true other is) (fromFault 0x1000 target true is) (fromFault 0x1000 target other is) (eqb (i .kind) 0x1000)
-    (target || not (eqb (circuitIds (i .content)) 1)) (other || not (lengthOk 0x1000 (i .content))) refl
-    (copy-unnumbered true other is) (copy-unnumbered target other is)
+copy-unnumbered : (is : List Item) → OfFirst Unlike is → Unnumbered (copyOf is)
+unfolding copyOf
+copy-unnumbered [] h = none-unnumbered
+copy-unnumbered (i ∷ is) h = tlv-unnumbered (i .kind) (i .content) h
+
+missing-unnumbered : (rs : List Rule) (is : List Item) → EachRule Unlike rs → Unnumbered (bares (missing rs is))
+unfolding missing bares
+missing-unnumbered [] is h = none-unnumbered
+missing-unnumbered (r ∷ rs) is h = go (lacks r is) (missing rs is) (missing-unnumbered rs is (h .1))
+  where
+    go : (b : Bool) (ts : List ℕ) → Unnumbered (bares ts) → Unnumbered (bares (cond b (r .kind ∷ ts) ts))
+    go true ts f = both-unnumbered (bareOf (r .kind)) (bares ts) (tlv-unnumbered (r .kind) [] (h .0)) f
+    go false ts f = f
+
+-- the rules of a 144 name no Sequence-Number
+ordered-unlike : EachRule Unlike (rulesOf 144)
+unfolding rulesOf
+ordered-unlike = (λ k. omega arith, (λ k. omega arith, tt))
 
 enclosed-unnumbered : (s : List ℕ) (code : ℕ) → Unnumbered (enclosedOf 144 s code)
-unfolding enclosedOf missing alsoNeeded singleOf targetOf
+unfolding enclosedOf targetOf
 enclosed-unnumbered s code =
-    some-unnumbered (eqb code 0x54) _ _
-    (both-unnumbered _ _ (bare 0x1000 (λ k. omega arith)) (both-unnumbered _ _ (bare 0x0011 (λ k. omega arith)) none-unnumbered))
-    (some-unnumbered (eqb code 0x55) _ _ (copy-unnumbered false false (itemsOf s))
+    some-unnumbered (eqb code 0x54) _ _ (missing-unnumbered (rulesOf 144) (itemsOf s) ordered-unlike)
+    (some-unnumbered (eqb code 0x55) _ _ (copy-unnumbered (faults 144 s) (fault-named Unlike (rulesOf 144) ordered-unlike [] (itemsOf s)))
     (some-unnumbered (eqb code 0x500 || eqb code 0x6) _ _ (tlv-unnumbered 0x1000 (tlvOf 0x0001 (idIn s)) (λ k. omega arith)) none-unnumbered))
-  where
-    bare : (k : ℕ) → (k ≡ 0x0022 → ⊥) → Unnumbered (cond (eqb (countOf k (itemsOf s)) 0) (bareOf k) [])
-    bare k n = some-unnumbered (eqb (countOf k (itemsOf s)) 0) (bareOf k) [] (tlv-unnumbered k [] n) none-unnumbered
 
 pub refused-unnumbered : (h : Header) (s : List ℕ) (code : ℕ) → h .kind ≡ 144 → countOf 0x0022 (enclosedIn (refusedOf h s code)) ≡ 0
 unfolding countOf ofType Unnumbered

@@ -23,7 +23,8 @@ use Rattle.card.specs.Cards.{Card, portAt}
 use Rattle.card.specs.Outcome.{Outcome, keeps, writes}
 use Rattle.checks.specs.declared.Verdict.{Verdict}
 use Rattle.checks.specs.declared.Verdict.the-variants.{Refused, Passed}
-use Rattle.checks.specs.Table.{handled, tableOf, refusedOf}
+use Rattle.rules.specs.Rules.{handled}
+use Rattle.checks.specs.Table.{tableOf, refusedOf}
 use Rattle.checks.proofs.Rows.{TablePassed, passed-tells}
 use Rattle.control.specs.Control.{controlled}
 use Rattle.transfers.specs.Transfers.{reallocated, transferred}

@@ -15,7 +15,7 @@ use Rattle.tables.specs.Tables.{tablesOk}
 use Rattle.sums.specs.Sums.{sumTo, sumBy}
 use Rattle.card.specs.Cards.{Card}
 use Rattle.card.specs.Outcome.{Outcome}
-use Rattle.demand3.specs.Reads.{At, Directive, malformed, add, delete, deleteAll, directiveOf, commandsIn, kindIn, resultIn, tlvsIn, portIn, listed, rateOf, isWhite, NoneIsAbout}
+use Rattle.demand3.specs.Reads.{At, Directive, malformed, add, delete, deleteAll, directiveOf, commandsIn, kindIn, resultIn, transactionIn, tlvsIn, portIn, listed, rateOf, isWhite, NoneIsAbout}
 use Rattle.demand3.specs.Calls.{Tables, Call, Build, cardAfter, history}
 use Rattle.demand3.specs.Calls.Call.{portUp, setDelegation, join, message}
 use Rattle.demand3.specs.Ledger.{Held, Line, Ledger, write, holds, actedIn, acts, actsAll, opened, ledgerFrom}
@@ -78,11 +78,13 @@ AllSucceed t l p x (c ∷ cs) = Succeeds t (write l p x) p (directiveOf c) × Al
 abbrev pub ledgerAfter : Tables → Ledger → ℕ → List (List ℕ) → Ledger
 ledgerAfter t l p cs = write l p (actsAll t (l p) cs)
 
--- m is a request of this type for port p: usable, its lengths and depth sound, with one Target that has one circuit id
+-- m is a request of this type for port p: usable, its transaction number not 0, its lengths and depth sound, with one Target that has one
+-- circuit id
 pub record Sound (t : Tables) (m : List ℕ) (kind p : ℕ) : Type 0 where
   pub size : sizeOk m ≡ true
   pub header : usable m ≡ true
   pub is-kind : kindIn m ≡ kind
+  pub transaction : 1 ≤ transactionIn m
   pub lengths : listOk 3 false (drop 16 m) ≡ true
   pub target : countOf 0x1000 (tlvsIn m) ≡ 1
   pub circuit : circuitIds (firstOf 0x1000 (tlvsIn m)) ≡ 1

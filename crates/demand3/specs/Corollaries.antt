@@ -7,16 +7,17 @@ use mathlib.Core.List.{List, [], _∷_, _++_, flatMap}
 use mathlib.Core.Logic.{_⊎_}
 use lib.ListN.{length}
 use Rattle.flows.specs.declared.Flow.{Flow}
-use Rattle.header.specs.Header.{headerIn, messageOf}
-use Rattle.writers.specs.Tlvs.{targetOf}
+use Rattle.header.specs.Header.{sizeOk, usable, headerIn, messageOf}
+use Rattle.writers.specs.Tlvs.{targetOf, statusOf}
 use Rattle.replies.specs.Replies.{replyHeader}
 use Rattle.flow_octets.specs.FlowOctets.{flowTlv}
 use Rattle.circuits.specs.Circuits.{idAt}
 use Rattle.rows.specs.declared.Found.the-variants.{At}
 use Rattle.card.specs.Cards.{Card}
+use Rattle.card.specs.Outcome.{writes}
 use Rattle.demand3.specs.Calls.{Tables, Call, Build, ours, outcomeOf, startedOf, cardAfter, history, byCall}
 use Rattle.demand3.specs.Calls.Call.{portDown, setDelegation, join, message}
-use Rattle.demand3.specs.Reads.{kindIn, resultIn, portIn, rateOf, isWhite, NoneIsAbout}
+use Rattle.demand3.specs.Reads.{kindIn, resultIn, transactionIn, portIn, rateOf, isWhite, NoneIsAbout}
 use Rattle.demand3.specs.Ledger.{Ledger, opened, ledgerFrom}
 use Rattle.demand3.specs.Claim.{charges, Wanted, Sound, Reaches, ledgerAfter, Acted, Claim}
 
@@ -72,6 +73,13 @@ Moves m = (kindIn m ≡ 146) ⊎ ((kindIn m ≡ 147) × (resultIn m ≡ 3))
 abbrev pub listReply : Tables → List ℕ → ℕ → List Flow → List ℕ
 listReply t m p fs = messageOf (replyHeader (headerIn m) 149 3 0) (targetOf (idAt (t .ids) p) ++ flatMap flowTlv fs)
 
+-- a request with a Result that its type asks for: 144 with 1 or 2, 146 with 0, 148 and 149 with 2
+abbrev pub RightResult : List ℕ → Type 0
+RightResult m =
+    ((kindIn m ≡ 144) × ((resultIn m ≡ 1) ⊎ (resultIn m ≡ 2)))
+    ⊎ (((kindIn m ≡ 146) × (resultIn m ≡ 0))
+    ⊎ (((kindIn m ≡ 148) ⊎ (kindIn m ≡ 149)) × (resultIn m ≡ 2)))
+
 pub record Corollaries : Type 0 where
   -- of every build that meets the claim, and so of ours
   pub first-four : (b : Build) → Claim b → (t : Tables) (first : ℕ) → b .start t first .number ≡ 0 → (xs ys : List Call) (p : ℕ)
@@ -99,3 +107,7 @@ pub record Corollaries : Type 0 where
   pub flows-answered : (t : Tables) (first : ℕ) → startedOf t first .number ≡ 0 → (xs : List Call) (m : List ℕ) (space p : ℕ) → Sound t m 149 p
       → resultIn m ≡ 2 → linesOf t first xs p .isUp ≡ true → 4608 ≤ space
       → outcomeOf t (cardFrom t first xs) (message m space) .reply ≡ listReply t m p (ours .flows t (cardFrom t first xs) p)
+  -- zero is no transaction: such a request with transaction 0, on any card and whatever follows its header, keeps the card and is answered by a
+  -- Generic Response, Failure 0x2, whose Status-Info names its type and encloses nothing
+  pub zero-refused : (t : Tables) (card : Card) (m : List ℕ) (space : ℕ) → sizeOk m ≡ true → usable m ≡ true → RightResult m → transactionIn m ≡ 0
+      → 4608 ≤ space → outcomeOf t card (message m space) ≡ writes card (messageOf (replyHeader (headerIn m) 91 4 0x2) (statusOf (kindIn m) []))

@@ -31,6 +31,9 @@ kindIn m = headerIn m .kind
 unfoldable pub resultIn : List ℕ → ℕ
 resultIn m = headerIn m .result
 
+unfoldable pub transactionIn : List ℕ → ℕ
+transactionIn m = headerIn m .transaction
+
 -- its TLVs at top level
 unfoldable pub tlvsIn : List ℕ → List Item
 tlvsIn m = itemsOf (drop 16 m)

@@ -5,6 +5,7 @@ use mathlib.Core.List.{List, [], _∷_}
 use mathlib.Core.Bool.{Bool, true, false, cond}
 use Prim.Native.Nat.{ℕ, zero, suc, _+_, _*_, _≤_, _<_, max}
 use native.Mathlib.Omega.{arith}
+use native.Mathlib.Nat.{le-refl}
 use lib.ListN.{length, take, length-append, length-take}
 use lib.Dec.{eqb}
 use Rattle.octets.specs.Numbers.{padded}
@@ -22,13 +23,14 @@ use Rattle.writers.specs.Tlvs.{bareOf, targetOf, statusOf, commandOf}
 use Rattle.writers.proofs.Tlvs.{length-tlv, length-target, length-flow, length-allocation, length-request, length-sequence, length-holder}
 use Rattle.replies.specs.Replies.{replyHeader, refusalOf, successOf, amountReply}
 use Rattle.begun.specs.Begun.{admissionOf, reallocationOf}
-use Rattle.checks.specs.Named.{singleOf}
+use Rattle.rules.specs.Rules.{rulesOf}
+use Rattle.rules.proofs.Faults.{fault-tail}
 use Rattle.checks.proofs.Named.{all-words}
 use Rattle.checks.specs.Table.{idIn, faults, enclosedOf}
 use Rattle.control.specs.Control.{failureOf}
 use Rattle.queries.specs.Queries.{flowTlvs, flowsReply}
 use Rattle.replyback.specs.Sizes.{ShortSizes, RowSizes, Sizes}
-use Rattle.replyback.proofs.Totals.{total, total-fits, two-types, among-fits, first-fits, first-none, type-fits, id-fits, faults-fit, copy-fits}
+use Rattle.replyback.proofs.Totals.{total, total-fits, two-types, among-fits, first-fits, first-none, type-fits, id-fits, totalOf, tail-fits, copy-fits}
 
 zero-or-more : (n : ℕ) → (n ≡ 0) ⊎ (0 < n)
 zero-or-more zero = inl refl
@@ -125,7 +127,7 @@ module _ (h : Header) (s : List ℕ) where
         result = refusal-length h 0x2 [];
         broken = refusal-length h 0x53 [];
         missing = simp refusal-length (omega (arith, all-words (h .kind) (itemsOf s) .most));
-        fault = simp refusal-length (omega (arith, copy-fits (faults (h .kind) s), faults-fit (singleOf (h .kind)) false false (itemsOf s), total-fits s));
+        fault = simp refusal-length (omega (arith, copy-fits (faults (h .kind) s), fault-tail (rulesOf (h .kind)) (λ is. totalOf is ≤ totalOf (itemsOf s)) (λ i is h. tail-fits i is (totalOf (itemsOf s)) h) [] (itemsOf s) (le-refl (totalOf (itemsOf s))), total-fits s));
         unknown = target-row 0x500;
         down = target-row 0x6;
         failure = λ code number c front after k e.

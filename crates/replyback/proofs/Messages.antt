@@ -27,8 +27,11 @@ use Rattle.card.specs.Cards.{Card, portAt}
 use Rattle.card.specs.Outcome.{Outcome, writes}
 use Rattle.checks.specs.declared.Verdict.{Verdict}
 use Rattle.checks.specs.declared.Verdict.the-variants.{Refused, Passed}
-use Rattle.checks.specs.Named.{needed, missing, singleOf}
-use Rattle.checks.specs.Table.{handled, resultOk, idIn, located, faults, namedRows, tableOf, refusedOf}
+use Rattle.rules.specs.Rules.{handled, resultOk, transactionOk, rulesOf}
+use Rattle.rules.specs.Named.{missing}
+use Rattle.rules.proofs.Faults.{one-circuit}
+use Rattle.checks.specs.Table.{idIn, located, faults, namedRows, tableOf, refusedOf}
+use Rattle.checks.proofs.Rows.{empty}
 use Rattle.commands.specs.Commands.{ranOf}
 use Rattle.control.specs.Control.{allGood, commandsFrom, commandsIn, controlled, failureOf}
 use Rattle.transfers.specs.Transfers.{transferFails, transferGives, reallocated, transferred}
@@ -41,7 +44,7 @@ use Rattle.replyback.proofs.Answers.{kinds-back, listing-says}
 use Rattle.replyback.proofs.Lengths.{sizes}
 use Rattle.replyback.specs.Every.MayWrite.{silent, written}
 use Rattle.replyback.proofs.Cases.{by-cond}
-use Rattle.replyback.proofs.Passed.{target-stands, one-circuit, code-fits, rows-few}
+use Rattle.replyback.proofs.Passed.{code-fits, rows-few}
 
 -- ---- what an outcome of a message m has to be
 abbrev Replies : List ℕ → Outcome → Type 0
@@ -181,13 +184,13 @@ module _ (m : List ℕ) (octets : Octets m) (lo : 16 ≤ length m) (hi : length 
         by-cond Row (portAt card p .up) _ _ (λ _. type-answers ids channels p ok one (port-found ids (card .head .«port_count») (idIn s) e .is) card)
         (λ _. row 0x6 (kinds-back .rows h s transaction-fits .down .refuses .says) (sizes .rows h s .down))
 
-    named-answers : listOk 3 false s ≡ true → Row (namedRows ids card (h .kind) s)
+    named-answers : handled (h .kind) ≡ true → listOk 3 false s ≡ true → Row (namedRows ids card (h .kind) s)
     unfolding namedRows
-    named-answers ok =
-        by-cond Row (eqb (length (missing (needed (h .kind)) (itemsOf s))) 0) _ _
+    named-answers known ok =
+        by-cond Row (eqb (length (missing (rulesOf (h .kind)) (itemsOf s))) 0) _ _
         (λ a. by-cond Row (eqb (length (faults (h .kind) s)) 0) _ _
         (λ b. port-answers ok
-        (one-circuit (singleOf (h .kind)) false (itemsOf s) (target-stands (h .kind) (itemsOf s) (eqb-true _ _ a)) (eqb-true _ _ b))
+        (one-circuit (h .kind) known (itemsOf s) (empty _ (eqb-true _ _ a)) (empty _ (eqb-true _ _ b)))
         (portOf ids (card .head .«port_count») (idIn s)) refl)
         (λ b. fault-answers ok (faults (h .kind) s) refl b))
         (λ a. row 0x54 (kinds-back .rows h s transaction-fits .missing .says) (omega (arith, sizes .rows h s .missing)))
@@ -197,10 +200,12 @@ module _ (m : List ℕ) (octets : Octets m) (lo : 16 ≤ length m) (hi : length 
     table-answers n =
         let three : depthOf (h .result) ≡ 3 = ap (λ (b : Bool). cond b 4 3) n in
         by-cond Row (handled (h .kind)) _ _
-        (λ _. by-cond Row (resultOk (h .kind) (h .result)) _ _
+        (λ known. by-cond Row (resultOk (h .kind) (h .result)) _ _
+        (λ _. by-cond Row (transactionOk (h .kind) (h .transaction)) _ _
         (λ _. by-cond Row (listOk (depthOf (h .result)) false s) _ _
-        (λ ok. named-answers (ap (λ (d : ℕ). listOk d false s) (sym three) ∙ ok))
+        (λ ok. named-answers known (ap (λ (d : ℕ). listOk d false s) (sym three) ∙ ok))
         (λ _. row 0x53 (kinds-back .rows h s transaction-fits .broken .says) (omega (arith, sizes .rows h s .broken))))
+        (λ _. row 0x2 (kinds-back .rows h s transaction-fits .result .says) (omega (arith, sizes .rows h s .result))))
         (λ _. row 0x2 (kinds-back .rows h s transaction-fits .result .says) (omega (arith, sizes .rows h s .result))))
         (λ _. row 0x51 (kinds-back .rows h s transaction-fits .unhandled .says) (omega (arith, sizes .rows h s .unhandled)))
 

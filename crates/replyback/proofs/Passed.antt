@@ -1,5 +1,4 @@
--- What is known of a message past the table, and of what follows there: its Target has one circuit id, a command's result code fits its
--- field, and a port's rows are at most 16. Assumes nothing.
+-- What is known of what follows past the table: a command's result code fits its field, and a port's rows are at most 16. Assumes nothing.
 use mathlib.Core.Path.{_≡_, refl, ap}
 use mathlib.Core.List.{List, [], _∷_, _++_}
 use mathlib.Core.Bool.{Bool, true, false, cond, not, _||_}
@@ -24,47 +23,10 @@ use Rattle.pool.specs.Pool.{isActive, hasFlow, rowsOf}
 use Rattle.card.specs.Cards.{Card}
 use Rattle.joins.specs.Joins.{admitNumber}
 use Rattle.listing.specs.Listing.{rowBefore, placed, placedAll, inOrder, rowsInOrder}
-use Rattle.checks.specs.Named.{alsoNeeded, needed, missing, fromFault}
 use Rattle.commands.specs.Commands.{Ran, addNew, addRow, deleteFlow, carriedOut, ranOf}
 use Rattle.commands.specs.Directives.{Directive, shapeOk, flowContent, flowDirective, directiveOf}
 use Rattle.commands.specs.Directives.Directive.{malformed}
 use Rattle.replyback.proofs.Cases.{by-cond}
-
--- ---- no type is missing: a Target stands
-stands-by : (t : ℕ) (rest : List ℕ) (n : ℕ) (b : Bool) → eqb n 0 ≡ b → length (cond b (bareOf t) [] ++ rest) ≡ 0 → 0 < n
-stands-by t rest n true e z = absurd (omega (arith, length-append (bareOf t) rest, length-tlv t []))
-stands-by t rest n false e z = pos-of-ne-zero (eqb-false _ _ e)
-
-first-stands : (t : ℕ) (ts : List ℕ) (is : List Item) → length (missing (t ∷ ts) is) ≡ 0 → 0 < countOf t is
-unfolding missing
-first-stands t ts is z = stands-by t (missing ts is) (countOf t is) (eqb (countOf t is) 0) refl z
-
-pub target-stands : (kind : ℕ) (is : List Item) → length (missing (needed kind) is) ≡ 0 → 0 < countOf 0x1000 is
-target-stands kind is = first-stands 0x1000 (alsoNeeded kind) is
-
--- ---- none is at fault: the Target has one circuit id
-rest-by : (a b : Bool) (i : Item) (is ks js : List Item) {R : Type 0} → (length ks ≡ 0 → R) → (length js ≡ 0 → R)
-    → length (cond a (cond b (i ∷ is) ks) js) ≡ 0 → R
-rest-by true true i is ks js f g z = absurd (omega arith)
-rest-by true false i is ks js f g z = f z
-rest-by false b i is ks js f g z = g z
-
-one-by : (a b : Bool) (i : Item) (is ks js : List Item) (cs : List (List ℕ)) → eqb (circuitIds (i .content)) 1 ≡ b
-    → (0 < length cs → length js ≡ 0 → circuitIds (getD cs 0 []) ≡ 1)
-    → 0 < length (cond a (i .content ∷ cs) cs) → length (cond a (cond (false || not b) (i ∷ is) ks) js) ≡ 0
-    → circuitIds (getD (cond a (i .content ∷ cs) cs) 0 []) ≡ 1
-one-by true true i is ks js cs e f l z = eqb-true _ _ e
-one-by true false i is ks js cs e f l z = absurd (omega arith)
-one-by false b i is ks js cs e f l z = f l z
-
-pub one-circuit : (single : ℕ) (other : Bool) (is : List Item) → 0 < countOf 0x1000 is → length (fromFault single false other is) ≡ 0
-    → circuitIds (firstOf 0x1000 is) ≡ 1
-unfolding fromFault countOf firstOf ofType
-one-circuit single other [] l z = absurd (omega arith)
-one-circuit single other (i ∷ is) l z =
-    one-by (eqb (i .kind) 0x1000) (eqb (circuitIds (i .content)) 1) i is _ _ (ofType 0x1000 is) refl
-    (λ k. rest-by (eqb (i .kind) single) (other || not (lengthOk single (i .content))) i is _ _ (one-circuit single true is k) (one-circuit single other is k))
-    l z
 
 -- ---- the result code of a command fits its field
 abbrev Small : Ran → Type 0

@@ -1,8 +1,8 @@
--- The TLVs of a received list that passed the check: each one's inside is in order, also of the Commands among them and of the first
--- one at fault. Assumes nothing.
+-- The TLVs of a received list that passed the check: each one's inside is in order, also of the Commands among
+-- them. Assumes nothing.
 use mathlib.Core.Path.{_≡_, refl, sym, ap, _∙_}
 use mathlib.Core.List.{List, [], _∷_, _++_}
-use mathlib.Core.Bool.{Bool, true, false, cond, not, _||_}
+use mathlib.Core.Bool.{Bool, true, false, cond}
 use Prim.Native.Nat.{ℕ, suc}
 use native.Mathlib.Nat.{le-refl}
 use lib.ListN.{length}
@@ -12,8 +12,6 @@ use Rattle.octets.proofs.Tests.{both}
 use Rattle.tlv.specs.Depth.{insideOk, allTlvs, listOk}
 use Rattle.tlv.proofs.Fold.{fold-related}
 use Rattle.items.specs.Items.{Item, itemsOf, ofType}
-use Rattle.fields.specs.Fields.{circuitIds, lengthOk}
-use Rattle.checks.specs.Named.{fromFault}
 
 -- each of some TLVs passes the test
 abbrev pub EachOk : (ℕ → List ℕ → Bool) → List Item → Type 0
@@ -53,18 +51,3 @@ module _ (ok : ℕ → List ℕ → Bool) where
   pub one-ok : (t : ℕ) (is : List Item) (front : List (List ℕ)) (c : List ℕ) (after : List (List ℕ))
       → EachOk ok is → ofType t is ≡ front ++ (c ∷ after) → ok t c ≡ true
   one-ok t is front c after h e = among t front c after (rw e at (of-ok t is h))
-
-  -- ---- those from the first one at fault on
-  ok-by : (b : Bool) (is js : List Item) → EachOk ok is → EachOk ok js → EachOk ok (cond b is js)
-  ok-by true is js hi hj = hi
-  ok-by false is js hi hj = hj
-
-  pub faults-ok : (single : ℕ) (target other : Bool) (is : List Item) → EachOk ok is → EachOk ok (fromFault single target other is)
-  unfolding fromFault
-  faults-ok single target other [] h = tt
-  faults-ok single target other (i ∷ is) h =
-      ok-by (eqb (i .kind) 0x1000) _ _
-      (ok-by (target || not (eqb (circuitIds (i .content)) 1)) _ _ h (faults-ok single true other is (h .1)))
-      (ok-by (eqb (i .kind) single) _ _
-      (ok-by (other || not (lengthOk single (i .content))) _ _ h (faults-ok single target true is (h .1)))
-      (faults-ok single target other is (h .1)))

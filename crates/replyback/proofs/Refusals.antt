@@ -1,45 +1,37 @@
 -- The refusals of the table and of a failed command read back. Assumes nothing.
 use mathlib.Core.Path.{_≡_, ap, _∙_}
 use mathlib.Core.List.{List, [], _∷_, _++_, append-assoc}
-use mathlib.Core.Bool.{Bool, true, false, cond}
+use mathlib.Core.Bool.{true, false}
 use Prim.Native.Nat.{ℕ, _<_}
 use native.Mathlib.Omega.{arith}
-use lib.Dec.{eqb}
 use Rattle.header.specs.declared.Header.{Header}
 use Rattle.tlv.specs.Depth.{insideOk, listOk}
-use Rattle.items.specs.Items.{Item, item, itemsOf, countOf}
-use Rattle.writers.specs.Tlvs.{tlvOf, bareOf, targetOf, sequenceOf}
+use Rattle.items.specs.Items.{Item, item, itemsOf}
+use Rattle.writers.specs.Tlvs.{tlvOf, targetOf, sequenceOf}
 use Rattle.replies.specs.Replies.{refusalOf}
 use Rattle.readback.proofs.Tlv.{items-none, items-back, items-last}
 use Rattle.readback.proofs.Fields.{read-back}
 use Rattle.readback.proofs.Checked.{passes, alone}
-use Rattle.checks.specs.Named.{needed, missing, singleOf}
+use Rattle.rules.specs.Rules.{rulesOf}
+use Rattle.rules.specs.Named.{missing, bares}
+use Rattle.rules.proofs.Faults.{fault-tail}
 use Rattle.checks.specs.Table.{idIn, copyOf, enclosedOf}
 use Rattle.control.specs.Control.{commandsIn, failureOf}
 use Rattle.replyback.specs.Says.{Refuses, absent}
 use Rattle.replyback.specs.Kinds.{RefusesPort, RowsBack, Fails}
 use Rattle.replyback.proofs.Composed.{before, last, targetContent, names, target-before, refused}
-use Rattle.replyback.proofs.Received.{insides-ok, one-ok, faults-ok}
+use Rattle.replyback.proofs.Received.{EachOk, insides-ok, one-ok}
 
 -- ---- 0x54: a bare header of each missing type
-absent-by : (b : Bool) (t : ℕ) (rest : List ℕ) (is : List Item) → itemsOf rest ≡ is
-    → itemsOf (cond b (bareOf t) [] ++ rest) ≡ cond b (item t [] ∷ is) is
-absent-by true t rest is e = items-back t [] rest ∙ ap (λ (js : List Item). item t [] ∷ js) e
-absent-by false t rest is e = e
+bares-back : (ts : List ℕ) → itemsOf (bares ts) ≡ absent ts
+unfolding bares absent
+bares-back [] = items-none
+bares-back (t ∷ ts) = items-back t [] (bares ts) ∙ ap (λ (js : List Item). item t [] ∷ js) (bares-back ts)
 
-missing-back : (ts : List ℕ) (is : List Item) → itemsOf (missing ts is) ≡ absent ts is
-unfolding missing absent
-missing-back [] is = items-none
-missing-back (t ∷ ts) is = absent-by (eqb (countOf t is) 0) t (missing ts is) (absent ts is) (missing-back ts is)
-
-bare-by : (b : Bool) (t : ℕ) (rest : List ℕ) → listOk 3 true rest ≡ true → listOk 3 true (cond b (bareOf t) [] ++ rest) ≡ true
-bare-by true t rest h = passes .bare 2 t rest h
-bare-by false t rest h = h
-
-missing-passes : (ts : List ℕ) (is : List Item) → listOk 3 true (missing ts is) ≡ true
-unfolding missing
-missing-passes [] is = passes .none 3 true
-missing-passes (t ∷ ts) is = bare-by (eqb (countOf t is) 0) t (missing ts is) (missing-passes ts is)
+bares-pass : (ts : List ℕ) → listOk 3 true (bares ts) ≡ true
+unfolding bares
+bares-pass [] = passes .none 3 true
+bares-pass (t ∷ ts) = passes .bare 2 t (bares ts) (bares-pass ts)
 
 module _ (h : Header) (s : List ℕ) (ht : h .transaction < 16777216) where
   -- 0x500, 0x6: the Target with the circuit id alone
@@ -62,11 +54,11 @@ module _ (h : Header) (s : List ℕ) (ht : h .transaction < 16777216) where
         result = plain 0x2 (omega arith);
         broken = plain 0x53 (omega arith);
         missing =
-            refused h 0x54 (missing (needed (h .kind)) (itemsOf s)) ht (omega arith) (missing-back (needed (h .kind)) (itemsOf s))
-            (missing-passes (needed (h .kind)) (itemsOf s));
+            let ts : List ℕ = missing (rulesOf (h .kind)) (itemsOf s) in
+            refused h 0x54 (bares ts) ht (omega arith) (bares-back ts) (bares-pass ts);
         -- the copy of a TLV that passed the check stands one level deeper
         fault = λ i is hs e.
-            let f = rw e at (faults-ok (insideOk (listOk 2) false) (singleOf (h .kind)) false false (itemsOf s) (insides-ok 2 s hs)) in
+            let f = rw e at (fault-tail (rulesOf (h .kind)) (EachOk (insideOk (listOk 2) false)) (λ i is h. h .1) [] (itemsOf s) (insides-ok 2 s hs)) in
             rw e (refused h 0x55 (tlvOf (i .kind) (i .content)) ht (omega arith) (items-last (i .kind) (i .content))
             (alone 3 true _ (passes .copy 2 true (i .kind) (i .content) (f .0))));
         unknown = target-row 0x500 (omega arith);

@@ -17,7 +17,6 @@ use Rattle.tlv.proofs.Firsts.{FirstIs, ended, broke, stood, first-is}
 use Rattle.items.specs.Items.{Item, item, itemsOf, ofType, countOf, firstOf}
 use Rattle.fields.specs.Fields.{circuitIds, circuitId, lengthOk}
 use Rattle.writers.proofs.Tlvs.{length-tlv}
-use Rattle.checks.specs.Named.{fromFault}
 use Rattle.checks.specs.Table.{copyOf}
 
 -- the octets of TLVs with these contents, and of these TLVs
@@ -100,20 +99,10 @@ module _ (t : ℕ) (is : List Item) where
 pub id-fits : (c : List ℕ) → 0 < circuitIds c → 4 + padded (length (circuitId c)) ≤ length c
 id-fits c h = omega (arith, first-fits 0x0001 (itemsOf c) h, type-fits 0x0001 (itemsOf c), total-fits c)
 
--- ---- of those from the first one at fault on
-le-by : (b : Bool) (is js : List Item) (n : ℕ) → totalOf is ≤ n → totalOf js ≤ n → totalOf (cond b is js) ≤ n
-le-by true is js n hi hj = hi
-le-by false is js n hi hj = hj
-
-pub faults-fit : (single : ℕ) (target other : Bool) (is : List Item) → totalOf (fromFault single target other is) ≤ totalOf is
-unfolding fromFault totalOf
-faults-fit single target other [] = omega arith
-faults-fit single target other (i ∷ is) =
-    le-by (eqb (i .kind) 0x1000) _ _ _
-    (le-by (target || not (eqb (circuitIds (i .content)) 1)) _ _ _ (omega arith) (omega (arith, faults-fit single true other is)))
-    (le-by (eqb (i .kind) single) _ _ _
-    (le-by (other || not (lengthOk single (i .content))) _ _ _ (omega arith) (omega (arith, faults-fit single target true is)))
-    (omega (arith, faults-fit single target other is)))
+-- those after the first take no more
+pub tail-fits : (i : Item) (is : List Item) (n : ℕ) → totalOf (i ∷ is) ≤ n → totalOf is ≤ n
+unfolding totalOf
+tail-fits i is n h = omega arith
 
 pub copy-fits : (is : List Item) → padded (length (copyOf is)) ≤ totalOf is
 unfolding copyOf totalOf

@@ -15,7 +15,8 @@ use Rattle.flow_octets.specs.FlowOctets.{flowFormed, flowNamed}
 use Rattle.channels.specs.Channels.{channelAt}
 use Rattle.replies.specs.Replies.{replyHeader, beginHeader, successOf, amountReply}
 use Rattle.begun.specs.Begun.{admissionOf, reallocationOf}
-use Rattle.checks.specs.Named.{needed}
+use Rattle.rules.specs.Rules.{rulesOf}
+use Rattle.rules.specs.Named.{missing}
 use Rattle.checks.specs.Table.{idIn, faults, refusedOf}
 use Rattle.commands.specs.Directives.{directiveOf}
 use Rattle.commands.specs.Directives.Directive.{add}
@@ -62,7 +63,7 @@ pub record RowsBack (h : Header) (s : List ℕ) : Type 0 where
   pub unhandled : Refuses (refusedOf h s 0x51) h 0x51 []
   pub result : Refuses (refusedOf h s 0x2) h 0x2 []
   pub broken : Refuses (refusedOf h s 0x53) h 0x53 []
-  pub missing : Refuses (refusedOf h s 0x54) h 0x54 (absent (needed (h .kind)) (itemsOf s))
+  pub missing : Refuses (refusedOf h s 0x54) h 0x54 (absent (missing (rulesOf (h .kind)) (itemsOf s)))
   pub fault : (i : Item) (is : List Item) → listOk 3 false s ≡ true → faults (h .kind) s ≡ i ∷ is
       → Refuses (refusedOf h s 0x55) h 0x55 (i ∷ [])
   pub unknown : RefusesPort (refusedOf h s 0x500) h 0x500 (idIn s)

@@ -2,14 +2,13 @@
 -- Assumes nothing: these are definitions; the statements are in Kinds, Sizes and Every.
 use Prim.Native.Nat.{ℕ}
 use mathlib.Core.Path.{_≡_}
-use mathlib.Core.Bool.{true, false, cond}
+use mathlib.Core.Bool.{true, false}
 use mathlib.Core.List.{List, [], _∷_}
 use lib.ListN.{drop}
-use lib.Dec.{eqb}
 use Rattle.header.specs.declared.Header.{Header}
 use Rattle.header.specs.Header.{usable, headerIn}
 use Rattle.tlv.specs.Depth.{depthOf, listOk}
-use Rattle.items.specs.Items.{Item, item, itemsOf, countOf}
+use Rattle.items.specs.Items.{Item, item, itemsOf}
 use Rattle.fields.specs.Fields.{circuitIds, circuitId, statusIn, statusText, statusTlvs}
 use Rattle.replies.specs.Replies.{replyHeader}
 
@@ -38,7 +37,7 @@ pub record Refuses (w : List ℕ) (h : Header) (code : ℕ) (is : List Item) : T
   pub says : Says w (replyHeader h 91 4 code) (item 0x0106 content ∷ [])
   pub status : Encloses content (h .kind) is
 
--- of the types ts those that stand nowhere among some TLVs, each as a bare header: a TLV without content
-unfoldable pub absent : List ℕ → List Item → List Item
-absent [] is = []
-absent (t ∷ ts) is = cond (eqb (countOf t is) 0) (item t [] ∷ absent ts is) (absent ts is)
+-- each of some types as a bare header: a TLV without content
+unfoldable pub absent : List ℕ → List Item
+absent [] = []
+absent (t ∷ ts) = item t [] ∷ absent ts

@@ -7,7 +7,7 @@
 -- Assumes nothing.
 use Prim.Native.Nat.{ℕ, suc}
 use mathlib.Core.Path.{_≡_, refl, sym, ap, ap₂, subst}
-use mathlib.Core.Bool.{Bool, true, false, cond, not, _||_}
+use mathlib.Core.Bool.{Bool, true, false, cond, not, _&&_, _||_}
 use mathlib.Core.List.{List, [], _∷_, _++_}
 use native.Mathlib.Omega.{arith}
 use lib.ListN.{length, getD}
@@ -15,8 +15,8 @@ use lib.Dec.{eqb}
 use borrow.Author.Tests.{eqb-true}
 use Rattle.items.specs.Items.{Item, item, itemsOf, ofType, countOf, firstOf}
 use Rattle.fields.specs.Fields.{circuitIds, circuitId, commandIn, lengthOk}
-use Rattle.writers.specs.Tlvs.{bareOf}
-use Rattle.checks.specs.Named.{missing, fromFault}
+use Rattle.rules.specs.declared.Rule.{Rule}
+use Rattle.rules.specs.Named.{lacks, missing, contentOk, stood, atFault, fromFault}
 use Rattle.commands.specs.Directives.{flowCount, flowContent, shapeOk, directiveOf}
 use Rattle.unread.specs.Alike.{tlvWith, tlvs, content, Alike, same, more, target, command, status}
 use Rattle.unread.proofs.Tlvs.{items-with, alike-length}
@@ -118,32 +118,36 @@ order-same (command code accounting x y x′ y′ a) e = command-order code acco
 order-same (status kind x x′ text u u′ p p′ a) e = absurd (omega arith)
 
 -- ---- what is missing, and what is at fault
-pub missing-same : (ts : List ℕ) {is is′ : List Item} → AlikeItems is is′ → missing ts is ≡ missing ts is′
-unfolding missing
+pub missing-same : (rs : List Rule) {is is′ : List Item} → AlikeItems is is′ → missing rs is ≡ missing rs is′
+unfolding missing lacks
 missing-same [] a = refl
-missing-same (t ∷ ts) a = ap₂ (λ (n : ℕ) (w : List ℕ). cond (eqb n 0) (bareOf t) [] ++ w) (count-same t a) (missing-same ts a)
+missing-same (r ∷ rs) a = rw (count-same (r .kind) a, count-same (r .instead) a, missing-same rs a)
 
-length-ok : (t : ℕ) (c c′ : List ℕ) → length c ≡ length c′ → lengthOk t c ≡ lengthOk t c′
+content-by : (k : ℕ) (c c′ : List ℕ) (b : Bool) → eqb k 0x1000 ≡ b → (k ≡ 0x1000 → circuitIds c ≡ circuitIds c′) → length c ≡ length c′
+    → cond b (eqb (circuitIds c) 1) (lengthOk k c) ≡ cond b (eqb (circuitIds c′) 1) (lengthOk k c′)
 unfolding lengthOk
-length-ok t c c′ e = rw e
+content-by k c c′ true e f g = ap (λ (n : ℕ). eqb n 1) (f (eqb-true k 0x1000 e))
+content-by k c c′ false e f g = rw g
 
-by-known : {xs xs′ ys ys′ : List Item} (b : Bool) → (b ≡ true → AlikeItems xs xs′) → AlikeItems ys ys′ → AlikeItems (cond b xs ys) (cond b xs′ ys′)
-by-known true f g = f refl
-by-known false f g = g
+content-same : {k : ℕ} {c c′ : List ℕ} → Alike (content k) c c′ → contentOk k c ≡ contentOk k c′
+unfolding contentOk
+content-same {k} {c} {c′} i = content-by k c c′ (eqb k 0x1000) refl (λ e. ids-same i e .0) (alike-length i)
+
+fault-same : (rs : List Rule) (before : List ℕ) {k : ℕ} {c c′ : List ℕ} → Alike (content k) c c′ → atFault rs before (item k c) ≡ atFault rs before (item k c′)
+unfolding atFault
+fault-same [] before i = refl
+fault-same (r ∷ rs) before {k} i =
+    ap₂ (λ (x y : Bool). cond (eqb k (r .kind)) ((r .single && stood k before) || not x) y) (content-same i) (fault-same rs before i)
 
 by-test : {xs xs′ ys ys′ : List Item} (b b′ : Bool) → b ≡ b′ → AlikeItems xs xs′ → AlikeItems ys ys′ → AlikeItems (cond b xs ys) (cond b′ xs′ ys′)
-by-test {xs} {xs′} {ys} {ys′} b b′ e f g =
-    subst (λ (z : Bool). AlikeItems (cond b xs ys) (cond z xs′ ys′)) e (by-known b (λ _. f) g)
+by-test {xs} {xs′} {ys} {ys′} b b′ e f g = subst (λ (z : Bool). AlikeItems (cond b xs ys) (cond z xs′ ys′)) e (go b)
+  where
+    go : (z : Bool) → AlikeItems (cond z xs ys) (cond z xs′ ys′)
+    go true = f
+    go false = g
 
-pub faults-alike : (single : ℕ) (is is′ : List Item) → AlikeItems is is′ → (before other : Bool)
-    → AlikeItems (fromFault single before other is) (fromFault single before other is′)
+pub faults-alike : (rs : List Rule) (is is′ : List Item) → AlikeItems is is′ → (before : List ℕ) → AlikeItems (fromFault rs before is) (fromFault rs before is′)
 unfolding fromFault
-faults-alike single _ _ no-items before other = no-items
-faults-alike single _ _ (one-more {k} {c} {c′} {is} {is′} i a) before other =
-    by-known (eqb k 0x1000)
-    (λ e. by-test (before || not (eqb (circuitIds c) 1)) (before || not (eqb (circuitIds c′) 1))
-    (ap (λ (n : ℕ). before || not (eqb n 1)) (ids-same i (eqb-true k 0x1000 e) .0)) (one-more i a) (faults-alike single is is′ a true other))
-    (by-known (eqb k single)
-    (λ e. by-test (other || not (lengthOk single c)) (other || not (lengthOk single c′))
-    (ap (λ (b : Bool). other || not b) (length-ok single c c′ (alike-length i))) (one-more i a) (faults-alike single is is′ a before true))
-    (faults-alike single is is′ a before other))
+faults-alike rs _ _ no-items before = no-items
+faults-alike rs _ _ (one-more {k} {c} {c′} {is} {is′} i a) before =
+    by-test (atFault rs before (item k c)) (atFault rs before (item k c′)) (fault-same rs before i) (one-more i a) (faults-alike rs is is′ a (k ∷ before))

@@ -20,7 +20,8 @@ use Rattle.card.specs.Cards.{Card}
 use Rattle.card.specs.Outcome.{Outcome, keeps, writes}
 use Rattle.checks.specs.declared.Verdict.{Verdict}
 use Rattle.checks.specs.declared.Verdict.the-variants.{Refused, Passed}
-use Rattle.checks.specs.Named.{needed, singleOf}
+use Rattle.rules.specs.Rules.{rulesOf}
+use Rattle.rules.specs.Named.{bares}
 use Rattle.checks.specs.Table.{idIn, faults, namedRows, tableOf, copyOf, enclosedOf, refusedOf}
 use Rattle.commands.specs.Commands.{Ran, ranOf}
 use Rattle.control.specs.Control.{failureOf, commandsFrom, controlled}
@@ -71,11 +72,11 @@ module _ (ids channels : List ℕ) (card : Card) (h : Header) {s s′ : List ℕ
   same-id = ids-same (first-alike 0x1000 items) refl .1
 
   alike-faults : AlikeItems (faults (h .kind) s) (faults (h .kind) s′)
-  alike-faults = faults-alike (singleOf (h .kind)) (itemsOf s) (itemsOf s′) items false false
+  alike-faults = faults-alike (rulesOf (h .kind)) (itemsOf s) (itemsOf s′) items []
 
   named-same : namedRows ids card (h .kind) s ≡ namedRows ids card (h .kind) s′
   unfolding namedRows
-  named-same = rw (missing-same (needed (h .kind)) items, items-length alike-faults, same-id)
+  named-same = rw (missing-same (rulesOf (h .kind)) items, items-length alike-faults, same-id)
 
   table-same : tableOf ids card h s ≡ tableOf ids card h s′
   unfolding tableOf
@@ -102,7 +103,7 @@ module _ (ids channels : List ℕ) (card : Card) (h : Header) {s s′ : List ℕ
   row-alike : (code : ℕ) → SameReply (refusedOf h s code) (refusedOf h s′ code)
   unfolding enclosedOf
   row-alike code =
-      row-by code (eqb code 0x54) (eqb code 0x55) refl _ _ _ _ (missing-same (needed (h .kind)) items)
+      row-by code (eqb code 0x54) (eqb code 0x55) refl _ _ _ _ (ap bares (missing-same (rulesOf (h .kind)) items))
       (ap (λ (id : List ℕ). cond (eqb code 0x500 || eqb code 0x6) (targetOf id) []) same-id)
 
   -- past the table

@@ -21,9 +21,10 @@ use Rattle.card.specs.Cards.{Card, portAt}
 use Rattle.card.specs.Outcome.{Outcome, writes}
 use Rattle.checks.specs.declared.Verdict.{Verdict}
 use Rattle.checks.specs.declared.Verdict.the-variants.{Refused, Passed}
-use Rattle.checks.specs.Named.{singleOf, fromFault}
-use Rattle.checks.specs.Table.{handled, faults, refusedOf}
-use Rattle.checks.proofs.Rows.{TablePassed, TableRefused, unhandled, unfit, broken, lacking, faulty, unknown, down, passed-tells, refused-tells}
+use Rattle.rules.specs.Rules.{handled, rulesOf}
+use Rattle.rules.proofs.Faults.{fault-tail}
+use Rattle.checks.specs.Table.{faults, refusedOf}
+use Rattle.checks.proofs.Rows.{TablePassed, TableRefused, unhandled, unfit, zero, broken, lacking, faulty, unknown, down, passed-tells, refused-tells}
 use Rattle.commands.specs.Commands.{ranOf}
 use Rattle.control.specs.Control.{allGood, commandsFrom, commandsIn, controlled, failureOf}
 use Rattle.transfers.specs.Transfers.{transferFails, transferGives, reallocated, transferred}
@@ -48,19 +49,11 @@ record EndsWith (is js : List Item) : Type 0 where
   before : List Item
   both : is ≡ before ++ js
 
-fault-ends : (single : ℕ) (target other : Bool) (is : List Item) → EndsWith is (fromFault single target other is)
-unfolding fromFault
-fault-ends single target other [] = record { before = []; both = refl }
-fault-ends single target other (i ∷ is) =
-    let here : EndsWith (i ∷ is) (i ∷ is) = record { before = []; both = refl } in
-    by-cond (EndsWith (i ∷ is)) (eqb (i .kind) 0x1000) _ _
-    (λ _. by-cond (EndsWith (i ∷ is)) (target || not (eqb (circuitIds (i .content)) 1)) _ _ (λ _. here) (λ _. on (fault-ends single true other is)))
-    (λ _. by-cond (EndsWith (i ∷ is)) (eqb (i .kind) single) _ _
-    (λ _. by-cond (EndsWith (i ∷ is)) (other || not (lengthOk single (i .content))) _ _ (λ _. here) (λ _. on (fault-ends single target true is)))
-    (λ _. on (fault-ends single target other is)))
+fault-ends : (kind : ℕ) (s : List ℕ) → EndsWith (itemsOf s) (faults kind s)
+fault-ends kind s = fault-tail (rulesOf kind) (EndsWith (itemsOf s)) shorter [] (itemsOf s) (record { before = []; both = refl })
   where
-    on : {js : List Item} → EndsWith is js → EndsWith (i ∷ is) js
-    on e = record { before = i ∷ e .before; both = ap (λ (ks : List Item). i ∷ ks) (e .both) }
+    shorter : (i : Item) (is : List Item) → EndsWith (itemsOf s) (i ∷ is) → EndsWith (itemsOf s) is
+    shorter i is e = record { before = e .before ++ (i ∷ []); both = e .both ∙ sym (append-assoc (e .before) (i ∷ []) is) }
 
 -- ---- one command more that succeeds
 succeed-one : {channels : List ℕ} {p : ℕ} {card now : Card} {cs : List (List ℕ)} (c : List ℕ) → AllRan channels p card cs now
@@ -113,13 +106,14 @@ module _ (t : Tables) (card : Card) (m : List ℕ) (space : ℕ) (octets : Octet
         → So (writes card (refusedOf h s 0x55))
     fault-writes v ok [] e n = absurd (n refl)
     fault-writes v ok (i ∷ is) e n =
-        let z = fault-ends (singleOf (h .kind)) false false (itemsOf s) in
+        let z = fault-ends (h .kind) s in
         tlv-at-fault (z .before) is v (z .both ∙ ap (λ (js : List Item). z .before ++ js) e) e (kinds-back .rows h s fits .fault i is ok e)
 
     row-writes : (code : ℕ) → verdictOn t card m ≡ Refused code → TableRefused (t .ids) card h s code → So (writes card (refusedOf h s code))
     row-writes _ v (unhandled a) = type-unhandled v (kinds-back .rows h s fits .unhandled)
     row-writes _ v (unfit a b) = result-wrong v (kinds-back .rows h s fits .result)
-    row-writes _ v (broken a b c) = tlvs-broken v (kinds-back .rows h s fits .broken)
+    row-writes _ v (zero a b c) = result-wrong v (kinds-back .rows h s fits .result)
+    row-writes _ v (broken a b c d) = tlvs-broken v (kinds-back .rows h s fits .broken)
     row-writes _ v (lacking a b) = tlvs-missing v (kinds-back .rows h s fits .missing)
     row-writes _ v (faulty a b c) = fault-writes v (three (a .sound)) (faults (h .kind) s) refl c
     row-writes _ v (unknown a b c d) = port-unknown v (kinds-back .rows h s fits .unknown)

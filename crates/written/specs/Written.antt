@@ -16,7 +16,8 @@ use Rattle.pool.specs.Pool.{committedOf}
 use Rattle.card.specs.Cards.{Card, portAt}
 use Rattle.checks.specs.declared.Verdict.{Verdict}
 use Rattle.checks.specs.declared.Verdict.the-variants.{Refused, Passed}
-use Rattle.checks.specs.Named.{needed}
+use Rattle.rules.specs.Rules.{rulesOf}
+use Rattle.rules.specs.Named.{missing}
 use Rattle.checks.specs.Table.{idIn, faults, tableOf}
 use Rattle.commands.specs.Commands.{ranOf}
 use Rattle.control.specs.Control.{commandsIn}
@@ -58,7 +59,7 @@ module _ (t : Tables) (card : Card) where
     result-wrong : {m w : List ℕ} {space : ℕ} → verdictOn m ≡ Refused 0x2 → Refuses w (headerIn m) 0x2 [] → Written (message m space) w
     tlvs-broken : {m w : List ℕ} {space : ℕ} → verdictOn m ≡ Refused 0x53 → Refuses w (headerIn m) 0x53 [] → Written (message m space) w
     tlvs-missing : {m w : List ℕ} {space : ℕ} → verdictOn m ≡ Refused 0x54
-        → Refuses w (headerIn m) 0x54 (absent (needed (headerIn m .kind)) (itemsOf (tlvsOf m))) → Written (message m space) w
+        → Refuses w (headerIn m) 0x54 (absent (missing (rulesOf (headerIn m .kind)) (itemsOf (tlvsOf m)))) → Written (message m space) w
     -- the TLV that is copied is one of the message: the first at fault
     tlv-at-fault : {m w : List ℕ} {space : ℕ} {i : Item} (before after : List Item) → verdictOn m ≡ Refused 0x55
         → itemsOf (tlvsOf m) ≡ before ++ (i ∷ after) → faults (headerIn m .kind) (tlvsOf m) ≡ i ∷ after

@@ -8,7 +8,6 @@ use Rattle.octets.specs.Numbers.{padded}
 use Rattle.tlv.proofs.Firsts.{tlv-fits}
 use Rattle.items.specs.Items.{item, itemsOf}
 use Rattle.items.proofs.Items.{items-end, items-broken, items-tlv}
-use Rattle.checks.specs.Named.{singleOf}
 use Rattle.checks.specs.Table.{faults, copyOf}
 use Rattle.checks.proofs.Named.{fault-short}
 use borrow.Author.Needs.{needs}
@@ -16,12 +15,12 @@ use Rattle.checks.proofs.refuse_fault.Statement.{statement}
 use Rattle.checks.proofs.refuse_fault.Tie as tie
 
 -- past the match: the TLV lies in the part
-fit : (c : tie.After-known-told) → (c .before .next .given .0 .1 .1 .0 ≡ 4 + padded (c .before .next .given .0 .1 .0)) × (c .before .next .given .0 .1 .1 .0 ≤ length (c .before .before .before .before .faults .result .now))
+fit : (c : tie.After-known-told) → (c .before .next .given .0 .1 .1 .0 ≡ 4 + padded (c .before .next .given .0 .1 .0)) × (c .before .next .given .0 .1 .1 .0 ≤ length (c .before .before .before .before .from-fault .result .now))
 fit c = tlv-fits _ (c .before .before .before .first-tlv .ensures) (c .before .next .given .1)
 
 -- and is the first one at fault
-first : (c : tie.After-known-told) → faults (c .before .before .before .before .before .before .before .args .h .kind) (c .before .before .before .before .before .before .before .args .tlvs .now) ≡ item (c .before .next .given .0 .0) (take (c .before .next .given .0 .1 .0) (drop 4 (c .before .before .before .before .faults .result .now))) ∷ itemsOf (drop (c .before .next .given .0 .1 .1 .0) (c .before .before .before .before .faults .result .now))
-first c = sym (c .before .before .before .before .faults .ensures) ∙ items-tlv _ (c .before .before .before .first-tlv .ensures) (c .before .next .given .1)
+first : (c : tie.After-known-told) → faults (c .before .before .before .before .before .before .before .args .h .kind) (c .before .before .before .before .before .before .before .args .tlvs .now) ≡ item (c .before .next .given .0 .0) (take (c .before .next .given .0 .1 .0) (drop 4 (c .before .before .before .before .from-fault .result .now))) ∷ itemsOf (drop (c .before .next .given .0 .1 .1 .0) (c .before .before .before .before .from-fault .result .now))
+first c = sym (c .before .before .before .before .from-fault .ensures) ∙ items-tlv _ (c .before .before .before .first-tlv .ensures) (c .before .next .given .1)
 
 add-e : tie.Need-add-e
 add-e c = omega (arith, fit c)
@@ -30,15 +29,15 @@ part-refuse-tlv-end : tie.Need-part-refuse-tlv-end
 part-refuse-tlv-end c = omega (arith, fit (c .before))
 
 refuse-tlv-requires : tie.Need-refuse-tlv-requires
-refuse-tlv-requires c κs = (omega (arith, c .before .before .before .before .before .before .before .before .before .pre), rw add-sub-cancel-left (omega (arith, fault-short (singleOf (c .before .before .before .before .before .before .before .before .before .args .h .kind)) (c .before .before .before .before .before .before .before .before .before .args .tlvs .now) (first (c .before .before)), c .before .before .before .before .before .before .before .before .before .pre)))
+refuse-tlv-requires c κs = (omega (arith, c .before .before .before .before .before .before .before .before .before .pre), rw add-sub-cancel-left (omega (arith, fault-short (c .before .before .before .before .before .before .before .before .before .args .h .kind) (c .before .before .before .before .before .before .before .before .before .args .tlvs .now) (first (c .before .before)), c .before .before .before .before .before .before .before .before .before .pre)))
 
 returns : tie.Need-returns
 unfolding copyOf
-returns c = rw (sym (c .before .before .before .before .before .before .before .faults .ensures) ∙ items-end _ (c .before .before .before .before .before .before .first-tlv .ensures) (c .before .before .before .before .enum-told .given .1)) (c .before .before .refuse .ensures)
+returns c = rw (sym (c .before .before .before .before .before .before .before .from-fault .ensures) ∙ items-end _ (c .before .before .before .before .before .before .first-tlv .ensures) (c .before .before .before .before .enum-told .given .1)) (c .before .before .refuse .ensures)
 
 returns-2 : tie.Need-returns-2
 unfolding copyOf
-returns-2 c = rw (sym (c .before .before .before .before .before .before .before .faults .ensures) ∙ items-broken _ (c .before .before .before .before .before .before .first-tlv .ensures) (c .before .before .before .before .enum-told2 .given .1)) (c .before .before .refuse2 .ensures)
+returns-2 c = rw (sym (c .before .before .before .before .before .before .before .from-fault .ensures) ∙ items-broken _ (c .before .before .before .before .before .before .first-tlv .ensures) (c .before .before .before .before .enum-told2 .given .1)) (c .before .before .refuse2 .ensures)
 
 returns-3 : tie.Need-returns-3
 unfolding copyOf

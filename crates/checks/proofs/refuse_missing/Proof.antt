@@ -3,7 +3,8 @@ use Prim.Native.Nat.{ℕ}
 use native.Mathlib.Omega.{arith}
 use Rattle.items.specs.Items.{itemsOf}
 use Rattle.replies.proofs.Refusals.{length-refusal, refusal-by}
-use Rattle.checks.specs.Named.{needed, missing}
+use Rattle.rules.specs.Rules.{rulesOf}
+use Rattle.rules.specs.Named.{missing, bares}
 use Rattle.checks.proofs.Named.{all-words}
 use borrow.Author.Needs.{needs}
 use Rattle.checks.proofs.refuse_missing.Statement.{statement}
@@ -16,7 +17,7 @@ add-result : tie.Need-add-result
 add-result c = omega (arith, c .before .before .before .before .before .before .put-missing .ensures .size, all-words (c .before .before .before .before .before .before .before .before .before .before .args .h .kind) (itemsOf (c .before .before .before .before .before .before .before .before .before .before .args .tlvs .now)) .most)
 
 returns : tie.Need-returns
-returns c = let a = c .before .before .before .before .before .before .before .before .before .before .args in let w : List ℕ = missing (needed (a .h .kind)) (itemsOf (a .tlvs .now)) in
+returns c = let a = c .before .before .before .before .before .before .before .before .before .before .args in let w : List ℕ = bares (missing (rulesOf (a .h .kind)) (itemsOf (a .tlvs .now))) in
     let m = all-words (a .h .kind) (itemsOf (a .tlvs .now)) .whole in
     let e = c .before .before .before .before .before .before .put-missing .ensures .size in
     record {

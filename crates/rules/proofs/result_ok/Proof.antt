@@ -1,7 +1,7 @@
 use borrow.Author.Tests.{eq-eqb, ne-eqb}
-use Rattle.checks.specs.Table.{resultOk}
-use Rattle.checks.proofs.result_ok.Statement.{statement}
-use Rattle.checks.proofs.result_ok.Tie as tie
+use Rattle.rules.specs.Rules.{resultOk}
+use Rattle.rules.proofs.result_ok.Statement.{statement}
+use Rattle.rules.proofs.result_ok.Tie as tie
 
 returns : tie.Need-returns
 unfolding resultOk

@@ -1,8 +1,8 @@
 use borrow.Author.Tests.{eq-eqb}
-use Rattle.checks.specs.Table.{handled}
-use Rattle.checks.proofs.Named.{handled-below, handled-last}
-use Rattle.checks.proofs.handled.Statement.{statement}
-use Rattle.checks.proofs.handled.Tie as tie
+use Rattle.rules.specs.Rules.{handled}
+use Rattle.rules.proofs.Types.{handled-below, handled-last}
+use Rattle.rules.proofs.handled.Statement.{statement}
+use Rattle.rules.proofs.handled.Tie as tie
 
 returns : tie.Need-returns
 unfolding handled

@@ -1,0 +1,4 @@
+pub mod Types
+pub mod Named
+pub mod Walk
+pub mod Faults

@@ -1,0 +1,167 @@
+-- The walk to the first TLV at fault.
+--     place-start, place-here, place-on, place-end     a search for the rule of a type, turn by turn
+--     walk-start, walk-free, walk-good, walk-fault, walk-end     its beginning, one turn, and its end
+-- Assumes nothing.
+use mathlib.Core.Path.{_≡_, refl, sym, ap, _∙_}
+use mathlib.Core.Bool.{Bool, true, false, cond, not, _&&_, _||_}
+use mathlib.Core.List.{List, [], _∷_}
+use Prim.Native.Nat.{ℕ, zero, suc, _+_, _≤_, _<_}
+use native.Mathlib.Omega.{arith}
+use native.Mathlib.Numerals.{add-one}
+use lib.ListN.{length, take, drop, getD, set, replicate}
+use lib.Seq.{length-take-le, getD-set-same, getD-set-other}
+use lib.Dec.{eqb}
+use borrow.Author.Tests.{eqb-true, eqb-false, eq-eqb, ne-eqb}
+use Rattle.items.specs.Items.{Item}
+use Rattle.rules.specs.declared.Rule.{Rule}
+use Rattle.rules.specs.Rules.{rule}
+use Rattle.rules.specs.Named.{contentOk, stood, atFault, fromFault, placeOf}
+use Rattle.rules.proofs.Named.{none, rules-cons, rules-past}
+
+-- ---- one TLV by its rule
+pub single-left : (single again ok : Bool) → single ≡ false → not ok ≡ ((single && again) || not ok)
+single-left single again ok h = rw h
+
+pub again-left : (single again ok : Bool) → again ≡ false → not ok ≡ ((single && again) || not ok)
+again-left true again ok h = rw h
+again-left false again ok h = refl
+
+-- ---- the place of the rule for a type
+module _ (t : ℕ) where
+  at-by : (b : Bool) (r : Rule) (rs : List Rule) → eqb t (r .kind) ≡ b → placeOf t (r ∷ rs) ≡ cond b 0 (suc (placeOf t rs))
+  unfolding placeOf
+  at-by b r rs e = ap (λ (x : Bool). cond x 0 (suc (placeOf t rs))) e
+
+  module _ (list : List Rule) (n i : ℕ) (short : n ≤ length list) (inv : placeOf t (take n list) ≡ i + placeOf t (drop i (take n list))) where
+    pub place-here : i < n → t ≡ getD list i none .kind → i ≡ placeOf t (take n list)
+    place-here h e =
+        let p = ap (placeOf t) (rules-cons list n i short h) ∙ at-by true (getD list i none) (drop (i + 1) (take n list)) (eq-eqb _ _ e) in
+        omega arith
+
+    pub place-on : i < n → (t ≡ getD list i none .kind → ⊥) → placeOf t (take n list) ≡ i + 1 + placeOf t (drop (i + 1) (take n list))
+    place-on h e =
+        let p = ap (placeOf t) (rules-cons list n i short h) ∙ at-by false (getD list i none) (drop (i + 1) (take n list)) (ne-eqb _ _ e) in
+        omega arith
+
+    pub place-end : n ≤ i → i ≤ n → n ≡ placeOf t (take n list)
+    unfolding placeOf
+    place-end h k = let p = ap (placeOf t) (rules-past list n i h) in omega arith
+
+  -- what stands there
+  pub placed : (rs : List Rule) → placeOf t rs < length rs → getD rs (placeOf t rs) none .kind ≡ t
+  unfolding placeOf
+  placed [] h = absurd (omega arith)
+  placed (r ∷ rs) h = go (eqb t (r .kind)) refl h (placed rs)
+    where
+      go : (b : Bool) → eqb t (r .kind) ≡ b → cond b 0 (suc (placeOf t rs)) < suc (length rs)
+          → (placeOf t rs < length rs → getD rs (placeOf t rs) none .kind ≡ t) → getD (r ∷ rs) (cond b 0 (suc (placeOf t rs))) none .kind ≡ t
+      go true e k f = sym (eqb-true t (r .kind) e)
+      go false e k f = f (omega arith)
+
+-- ---- whether a TLV is at fault, by the place of its rule
+module _ (before : List ℕ) (i : Item) where
+  -- by one rule
+  abbrev pub faultBy : Rule → Bool
+  faultBy r = (r .single && stood (i .kind) before) || not (contentOk (i .kind) (i .content))
+
+  pub fault-at : (rs : List Rule) → placeOf (i .kind) rs < length rs → atFault rs before i ≡ faultBy (getD rs (placeOf (i .kind) rs) none)
+  unfolding placeOf atFault
+  fault-at [] h = absurd (omega arith)
+  fault-at (r ∷ rs) h = go (eqb (i .kind) (r .kind)) h (fault-at rs)
+    where
+      go : (b : Bool) → cond b 0 (suc (placeOf (i .kind) rs)) < suc (length rs)
+          → (placeOf (i .kind) rs < length rs → atFault rs before i ≡ faultBy (getD rs (placeOf (i .kind) rs) none))
+          → cond b (faultBy r) (atFault rs before i) ≡ faultBy (getD (r ∷ rs) (cond b 0 (suc (placeOf (i .kind) rs))) none)
+      go true k f = refl
+      go false k f = f (omega arith)
+
+  pub fault-none : (rs : List Rule) → length rs ≤ placeOf (i .kind) rs → atFault rs before i ≡ false
+  unfolding placeOf atFault
+  fault-none [] h = refl
+  fault-none (r ∷ rs) h = go (eqb (i .kind) (r .kind)) h (fault-none rs)
+    where
+      go : (b : Bool) → suc (length rs) ≤ cond b 0 (suc (placeOf (i .kind) rs)) → (length rs ≤ placeOf (i .kind) rs → atFault rs before i ≡ false)
+          → cond b (faultBy r) (atFault rs before i) ≡ false
+      go true k f = absurd (omega arith)
+      go false k f = f (omega arith)
+
+-- ---- a walk that has passed some TLVs; `rest` are those that are left, and `seen` tells of each rule whether one stood before
+pub record Walked (rs : List Rule) (seen : List Bool) (all rest : List Item) : Type 0 where
+  pub before : List ℕ
+  pub same : fromFault rs [] all ≡ fromFault rs before rest
+  pub marks : (t : ℕ) → placeOf t rs < length rs → getD seen (placeOf t rs) false ≡ stood t before
+
+none-seen : (n k : ℕ) → getD (replicate n false) k false ≡ false
+none-seen zero k = refl
+none-seen (suc n) zero = refl
+none-seen (suc n) (suc k) = none-seen n k
+
+pub walk-start : (rs : List Rule) (n : ℕ) (all : List Item) → Walked rs (replicate n false) all all
+unfolding stood
+walk-start rs n all = record { before = []; same = refl; marks = λ t h. none-seen n (placeOf t rs) }
+
+pub walk-end : {rs : List Rule} {seen : List Bool} {all rest : List Item} → Walked rs seen all rest → rest ≡ [] → rest ≡ fromFault rs [] all
+unfolding fromFault
+walk-end {rs} w e = e ∙ sym (w .same ∙ ap (fromFault rs (w .before)) e)
+
+module _ (rs : List Rule) (seen : List Bool) (all : List Item) (i : Item) (is : List Item) (w : Walked rs seen all (i ∷ is)) where
+  goes-on : atFault rs (w .before) i ≡ false → fromFault rs [] all ≡ fromFault rs (i .kind ∷ w .before) is
+  unfolding fromFault
+  goes-on e = w .same ∙ ap (λ (b : Bool). cond b (i ∷ is) (fromFault rs (i .kind ∷ w .before) is)) e
+
+  stood-other : (t : ℕ) → (i .kind ≡ t → ⊥) → stood t (w .before) ≡ stood t (i .kind ∷ w .before)
+  unfolding stood
+  stood-other t n = ap (λ (b : Bool). b || stood t (w .before)) (sym (ne-eqb (i .kind) t n))
+
+  -- its type has no rule
+  pub walk-free : length rs ≤ placeOf (i .kind) rs → Walked rs seen all is
+  walk-free h =
+      record {
+        before = i .kind ∷ w .before;
+        same = goes-on (fault-none (w .before) i rs h);
+        marks = λ t k. w .marks t k ∙ stood-other t (λ e. let z = ap (λ (x : ℕ). placeOf x rs) e in omega arith);
+      }
+
+  module _ (j : ℕ) (r : Rule) (e : j ≡ placeOf (i .kind) rs) (h : j < length rs) (is-rule : getD rs j none ≡ r) where
+    here : placeOf (i .kind) rs < length rs
+    here = omega arith
+
+    -- as the code tests it
+    abbrev test : Bool
+    test = (r .single && getD seen j false) || not (contentOk (r .kind) (i .content))
+
+    tested : (b : Bool) → test ≡ b → atFault rs (w .before) i ≡ b
+    tested b t =
+        fault-at (w .before) i rs here
+        ∙ ap (λ (x : Bool). (getD rs (placeOf (i .kind) rs) none .single && x) || not (contentOk (i .kind) (i .content))) (sym (w .marks (i .kind) here))
+        ∙ ap (λ (x : ℕ). (getD rs (placeOf (i .kind) rs) none .single && getD seen (placeOf (i .kind) rs) false) || not (contentOk x (i .content))) (sym (placed (i .kind) rs here))
+        ∙ ap (λ (x : ℕ). (getD rs x none .single && getD seen x false) || not (contentOk (getD rs x none .kind) (i .content))) (sym e)
+        ∙ ap (λ (x : Rule). (x .single && getD seen j false) || not (contentOk (x .kind) (i .content))) is-rule
+        ∙ t
+
+    pub walk-fault : test ≡ true → fromFault rs [] all ≡ i ∷ is
+    unfolding fromFault
+    walk-fault t = w .same ∙ ap (λ (b : Bool). cond b (i ∷ is) (fromFault rs (i .kind ∷ w .before) is)) (tested true t)
+
+    marked : j < length seen → (t : ℕ) → placeOf t rs < length rs → (b : Bool) → eqb (i .kind) t ≡ b → getD (set seen j true) (placeOf t rs) false ≡ stood t (i .kind ∷ w .before)
+    unfolding stood
+    marked l t k true s =
+        ap (λ (x : ℕ). getD (set seen j true) (placeOf x rs) false) (sym (eqb-true (i .kind) t s))
+        ∙ ap (λ (x : ℕ). getD (set seen j true) x false) (sym e)
+        ∙ getD-set-same seen j true false l
+        ∙ ap (λ (b : Bool). b || stood t (w .before)) (sym s)
+    marked l t k false s =
+        getD-set-other seen j (placeOf t rs) true false (λ z. eqb-false (i .kind) t s (other z))
+        ∙ w .marks t k
+        ∙ ap (λ (b : Bool). b || stood t (w .before)) (sym s)
+      where
+        other : placeOf t rs ≡ j → i .kind ≡ t
+        other z = sym (placed (i .kind) rs here) ∙ ap (λ (x : ℕ). getD rs x none .kind) (sym e ∙ sym z) ∙ placed t rs k
+
+    pub walk-good : j < length seen → test ≡ false → Walked rs (set seen j true) all is
+    walk-good l t =
+        record {
+          before = i .kind ∷ w .before;
+          same = goes-on (tested false t);
+          marks = λ x k. marked l x k (eqb (i .kind) x) refl;
+        }

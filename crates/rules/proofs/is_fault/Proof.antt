@@ -1,0 +1,19 @@
+use mathlib.Core.Path.{ap, _∙_}
+use mathlib.Core.Logic.{⊎-elim}
+use mathlib.Core.Bool.{not}
+use Rattle.rules.specs.Named.{contentOk}
+use Rattle.rules.proofs.Walk.{single-left, again-left}
+use borrow.Author.Needs.{needs}
+use Rattle.rules.proofs.is_fault.Statement.{statement}
+use Rattle.rules.proofs.is_fault.Tie as tie
+
+-- src/lib.rt:246:1
+returns-2 : tie.Need-returns-2
+returns-2 c = ap not (c .content-ok .ensures) ∙ ⊎-elim (λ w. again-left (c .before .before .before .args .r .single) (c .before .before .before .args .again) (contentOk (c .before .before .before .args .r .kind) (c .before .before .before .args .content .now)) (w .1 .left)) (λ w. single-left (c .before .before .before .args .r .single) (c .before .before .before .args .again) (contentOk (c .before .before .before .args .r .kind) (c .before .before .before .args .content .now)) (w .left)) (c .before .if1 .came)
+
+pub is-fault-spec : {M : Type 1} → statement M
+is-fault-spec = tie.close
+    (tie.spec
+    (λ c. search needs)
+    (λ c κs. search needs)
+    returns-2)

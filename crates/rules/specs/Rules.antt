@@ -1,0 +1,46 @@
+-- What each message type asks, by its type (CARD.md, "A message, check by check"): whether it is handled, its Results,
+-- its transaction number, and the TLVs that its rules name. A type more is a line in each. Assumes nothing: these are
+-- definitions.
+use Prim.Native.Nat.{ℕ, _<_}
+use mathlib.Core.Bool.{Bool, true, false, cond, _||_}
+use mathlib.Core.List.{List, [], _∷_}
+use lib.ListN.{take}
+use lib.Dec.{eqb, ltb}
+use Rattle.rules.specs.declared.Rule.{Rule}
+use Rattle.rules.specs.declared.Rules.{Rules}
+
+-- 144, 146, 147, 148 and 149 are handled
+unfoldable pub handled : ℕ → Bool
+handled kind = eqb kind 144 || (eqb kind 146 || (eqb kind 147 || (eqb kind 148 || eqb kind 149)))
+
+-- Result 1 or 2 (144), 0 (146), 2 (148, 149). That of a 147 was looked at before
+unfoldable pub resultOk : ℕ → ℕ → Bool
+resultOk kind result =
+    cond (eqb kind 144) (eqb result 1 || eqb result 2)
+    (cond (eqb kind 146) (eqb result 0)
+    (cond (eqb kind 147) true
+    (eqb result 2)))
+
+-- transaction 0 is none: not in a 144, 146, 148 or 149. That of a 147 is compared with the open request's
+unfoldable pub transactionOk : ℕ → ℕ → Bool
+transactionOk kind transaction = cond (eqb kind 147) true (ltb 0 transaction)
+
+-- the rule for the TLVs of type t in a message: `needed`, one of them must stand; `single`, no second one may. Where one
+-- of another type serves as well, that type stands in `instead`
+abbrev pub rule : ℕ → Bool → Bool → Rule
+rule t needed single = record { kind = t; instead = t; needed = needed; single = single }
+
+-- the TLVs that a message's rules name, in the row's order: Target 0x1000, Command 0x0011 (144), Bandwidth-Request
+-- 0x0016 (146), Bandwidth-Allocation 0x0015 (147). All others are stepped over
+unfoldable pub rulesOf : ℕ → List Rule
+rulesOf kind =
+    cond (eqb kind 144) (rule 0x1000 true true ∷ rule 0x0011 true false ∷ [])
+    (cond (eqb kind 146) (rule 0x1000 true true ∷ rule 0x0016 true true ∷ [])
+    (cond (eqb kind 147) (rule 0x1000 true true ∷ rule 0x0015 true true ∷ [])
+    (cond (eqb kind 148) (rule 0x1000 true true ∷ [])
+    (cond (eqb kind 149) (rule 0x1000 true true ∷ [])
+    []))))
+
+-- the rules that the code has in a table
+abbrev pub rulesIn : Rules → List Rule
+rulesIn r = take (r .count) (r .list)
