@@ -6,7 +6,7 @@
 use mathlib.Core.Path.{_≡_, refl, sym, ap, _∙_}
 use mathlib.Core.Bool.{Bool, true, false, cond, not, _&&_, false≢true}
 use mathlib.Core.List.{List, [], _∷_, _++_, append-nil, append-assoc}
-use Prim.Native.Nat.{ℕ, suc, _+_, _-_, _*_, _%_, _≤_, _<_}
+use Prim.Native.Nat.{ℕ, zero, suc, _+_, _-_, _*_, _%_, _≤_, _<_}
 use native.Mathlib.Omega.{arith}
 use native.Mathlib.Numerals.{add-one}
 use lib.ListN.{length, take, drop, getD, length-append, length-take, drop-of-length-le}
@@ -21,7 +21,8 @@ use Rattle.items.proofs.Types.{of-from}
 use Rattle.writers.specs.Tlvs.{bareOf}
 use Rattle.writers.proofs.Tlvs.{length-tlv}
 use Rattle.rules.specs.declared.Rule.{Rule}
-use Rattle.rules.specs.Rules.{rule}
+use Rattle.rules.specs.declared.Rules.{Rules}
+use Rattle.rules.specs.Rules.{rule, ruleAt, allRules}
 use Rattle.rules.specs.Named.{lacks, missing, bares}
 
 -- ---- a TLV of type t stands
@@ -43,6 +44,14 @@ module _ (t : ℕ) where
 -- ---- the first rule that lacks its TLV
 abbrev pub none : Rule
 none = rule 0 false false
+
+-- as the code has it
+pub rule-is : (r : Rules) (i : ℕ) → i < 4 → getD (allRules r) i none ≡ ruleAt r i
+rule-is r zero h = refl
+rule-is r (suc zero) h = refl
+rule-is r (suc (suc zero)) h = refl
+rule-is r (suc (suc (suc zero))) h = refl
+rule-is r (suc (suc (suc (suc i)))) h = absurd (omega arith)
 
 module _ (list : List Rule) (n i : ℕ) (short : n ≤ length list) (h : i < n) where
   -- the rules from i on begin with that at i

@@ -1,13 +1,16 @@
 -- What the rules of a message type ask.
 --     handled-last, ..       the types that are handled, as the code tells them
+--     filled                 a table of rules whose arrays are whole
 -- Assumes nothing.
 use mathlib.Core.Path.{_≡_, refl}
 use mathlib.Core.Bool.{Bool, true, false, _||_}
 use Prim.Native.Nat.{ℕ, _≤_, _<_}
 use native.Mathlib.Omega.{arith}
+use lib.ListN.{length}
 use lib.Dec.{eqb, leb}
 use borrow.Author.Tests.{eqb-true, eqb-false, ne-eqb, le-leb, lt-leb}
-use Rattle.rules.specs.Rules.{handled}
+use Rattle.rules.specs.declared.Rules.{Rules}
+use Rattle.rules.specs.Rules.{handled, Filled}
 
 -- ---- the types that are handled
 last-by : (k : ℕ) (a b c d : Bool) → 146 ≤ k → eqb k 146 ≡ a → eqb k 147 ≡ b → eqb k 148 ≡ c → eqb k 149 ≡ d → leb k 149 ≡ (a || (b || (c || d)))
@@ -31,3 +34,7 @@ module _ (k : ℕ) (n : k ≡ 144 → ⊥) where
   unfolding handled
   handled-below l =
       simp (ne-eqb k 144 n, ne-eqb k 146 (λ e. omega arith), ne-eqb k 147 (λ e. omega arith), ne-eqb k 148 (λ e. omega arith), ne-eqb k 149 (λ e. omega arith))
+
+-- ---- a table of rules whose arrays are whole
+pub filled : {r : Rules} → r .count ≤ 4 → length (r .kinds) ≡ 4 → length (r .instead) ≡ 4 → length (r .needed) ≡ 4 → length (r .single) ≡ 4 → Filled r
+filled a b c d e = record { few = a; kinds = b; instead = c; needed = d; single = e }

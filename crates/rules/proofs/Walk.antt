@@ -122,21 +122,20 @@ module _ (rs : List Rule) (seen : List Bool) (all : List Item) (i : Item) (is : 
         marks = λ t k. w .marks t k ∙ stood-other t (λ e. let z = ap (λ (x : ℕ). placeOf x rs) e in omega arith);
       }
 
-  module _ (j : ℕ) (r : Rule) (e : j ≡ placeOf (i .kind) rs) (h : j < length rs) (is-rule : getD rs j none ≡ r) where
+  module _ (j : ℕ) (single : Bool) (e : j ≡ placeOf (i .kind) rs) (h : j < length rs) (is-single : getD rs j none .single ≡ single) where
     here : placeOf (i .kind) rs < length rs
     here = omega arith
 
     -- as the code tests it
     abbrev test : Bool
-    test = (r .single && getD seen j false) || not (contentOk (r .kind) (i .content))
+    test = (single && getD seen j false) || not (contentOk (i .kind) (i .content))
 
     tested : (b : Bool) → test ≡ b → atFault rs (w .before) i ≡ b
     tested b t =
         fault-at (w .before) i rs here
         ∙ ap (λ (x : Bool). (getD rs (placeOf (i .kind) rs) none .single && x) || not (contentOk (i .kind) (i .content))) (sym (w .marks (i .kind) here))
-        ∙ ap (λ (x : ℕ). (getD rs (placeOf (i .kind) rs) none .single && getD seen (placeOf (i .kind) rs) false) || not (contentOk x (i .content))) (sym (placed (i .kind) rs here))
-        ∙ ap (λ (x : ℕ). (getD rs x none .single && getD seen x false) || not (contentOk (getD rs x none .kind) (i .content))) (sym e)
-        ∙ ap (λ (x : Rule). (x .single && getD seen j false) || not (contentOk (x .kind) (i .content))) is-rule
+        ∙ ap (λ (x : ℕ). (getD rs x none .single && getD seen x false) || not (contentOk (i .kind) (i .content))) (sym e)
+        ∙ ap (λ (x : Bool). (x && getD seen j false) || not (contentOk (i .kind) (i .content))) is-single
         ∙ t
 
     pub walk-fault : test ≡ true → fromFault rs [] all ≡ i ∷ is

@@ -1,10 +1,11 @@
 -- What each message type asks, by its type (CARD.md, "A message, check by check"): whether it is handled, its Results,
 -- its transaction number, and the TLVs that its rules name. A type more is a line in each. Assumes nothing: these are
 -- definitions.
-use Prim.Native.Nat.{ℕ, _<_}
+use Prim.Native.Nat.{ℕ, _≤_}
+use mathlib.Core.Path.{_≡_}
 use mathlib.Core.Bool.{Bool, true, false, cond, _||_}
 use mathlib.Core.List.{List, [], _∷_}
-use lib.ListN.{take}
+use lib.ListN.{length, take, getD}
 use lib.Dec.{eqb, ltb}
 use Rattle.rules.specs.declared.Rule.{Rule}
 use Rattle.rules.specs.declared.Rules.{Rules}
@@ -41,6 +42,19 @@ rulesOf kind =
     (cond (eqb kind 149) (rule 0x1000 true true ∷ [])
     []))))
 
--- the rules that the code has in a table
+-- ---- as the code has them, field by field; need not be believed
+pub record Filled (r : Rules) : Type 0 where
+  pub few : r .count ≤ 4
+  pub kinds : length (r .kinds) ≡ 4
+  pub instead : length (r .instead) ≡ 4
+  pub needed : length (r .needed) ≡ 4
+  pub single : length (r .single) ≡ 4
+
+abbrev pub ruleAt : Rules → ℕ → Rule
+ruleAt r i = record { kind = getD (r .kinds) i 0; instead = getD (r .instead) i 0; needed = getD (r .needed) i false; single = getD (r .single) i false }
+
+abbrev pub allRules : Rules → List Rule
+allRules r = ruleAt r 0 ∷ ruleAt r 1 ∷ ruleAt r 2 ∷ ruleAt r 3 ∷ []
+
 abbrev pub rulesIn : Rules → List Rule
-rulesIn r = take (r .count) (r .list)
+rulesIn r = take (r .count) (allRules r)

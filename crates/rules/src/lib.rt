@@ -8,15 +8,16 @@ use tlv::First;
 ghost use mathlib.Core.Path.{_≡_};
 ghost use mathlib.Core.Bool.{not, _&&_, _||_};
 ghost use mathlib.Core.List.{[], _∷_};
-ghost use Prim.Native.Nat.{_≤_};
+ghost use Prim.Native.Nat.{_≤_, _<_};
 ghost use lib.ListN.{length};
 ghost use lib.Dec.{eqb, ltb};
 ghost use Rattle.octets.specs.Writing.{Wrote};
 ghost use Rattle.items.specs.Items.{itemsOf, countOf};
-ghost use Rattle.rules.specs.Rules.{handled, resultOk, transactionOk, rule, rulesOf, rulesIn};
+ghost use Rattle.rules.specs.Rules.{handled, resultOk, transactionOk, rulesOf, Filled, ruleAt, rulesIn};
 ghost use Rattle.rules.specs.Named.{lacks, missing, bares, contentOk, fromFault, placeOf};
 
-// The TLVs of type `kind` in a message: `needed`, one of them or of type `instead` must stand; `single`, no second may.
+// The rule for the TLVs of type `kind` in a message: `needed`, one of them or of type `instead` must stand; `single`, no
+// second one may.
 pub struct Rule {
     pub kind: u16,
     pub instead: u16,
@@ -24,10 +25,13 @@ pub struct Rule {
     pub single: bool,
 }
 
-// The first `count`.
+// The rules of a message type: the first `count`, field by field.
 pub struct Rules {
     pub count: usize,
-    pub list: [Rule; 4],
+    pub kinds: [u16; 4],
+    pub instead: [u16; 4],
+    pub needed: [bool; 4],
+    pub single: [bool; 4],
 }
 
 // ---- by the message's type
@@ -68,47 +72,85 @@ pub fn transaction_ok(kind: u8, transaction: u32) -> bool
     0 < transaction
 }
 
+// One line for each type: how many rules, their types, whether one is needed, whether a second one is a fault.
 pub fn rules_of(kind: u8) -> Rules
-    ensures whole { λ r. ⌜ (r .count ≤ 4) × (length (r .list) ≡ 4) ⌝ }
+    ensures whole { λ r. ⌜ Filled r ⌝ }
     ensures rules { λ r. ⌜ rulesIn r ≡ rulesOf kind ⌝ }
 {
-    let target = rule_for(TARGET, true, true);
     if kind == 144 {
-        return first_rules(2, target, rule_for(COMMAND, true, false));
+        return rules_with(
+            2,
+            [TARGET, COMMAND, 0, 0],
+            [true, true, false, false],
+            [true, false, false, false],
+        );
     }
     if kind == 146 {
-        return first_rules(2, target, rule_for(REQUEST, true, true));
+        return rules_with(
+            2,
+            [TARGET, REQUEST, 0, 0],
+            [true, true, false, false],
+            [true, true, false, false],
+        );
     }
     if kind == 147 {
-        return first_rules(2, target, rule_for(ALLOCATION, true, true));
+        return rules_with(
+            2,
+            [TARGET, ALLOCATION, 0, 0],
+            [true, true, false, false],
+            [true, true, false, false],
+        );
     }
     if kind == 148 {
-        return first_rules(1, target, target);
+        return rules_with(
+            1,
+            [TARGET, 0, 0, 0],
+            [true, false, false, false],
+            [true, false, false, false],
+        );
     }
     if kind == 149 {
-        return first_rules(1, target, target);
+        return rules_with(
+            1,
+            [TARGET, 0, 0, 0],
+            [true, false, false, false],
+            [true, false, false, false],
+        );
     }
-    first_rules(0, target, target)
+    rules_with(
+        0,
+        [0, 0, 0, 0],
+        [false, false, false, false],
+        [false, false, false, false],
+    )
 }
 
-fn rule_for(kind: u16, needed: bool, single: bool) -> Rule
-    ensures { λ r. ⌜ r ≡ rule kind needed single ⌝ }
+// No other type serves instead.
+fn rules_with(count: usize, kinds: [u16; 4], needed: [bool; 4], single: [bool; 4]) -> Rules
+    ensures { λ r. ⌜ r ≡ record { count = count; kinds = kinds; instead = kinds; needed = needed; single = single } ⌝ }
 {
-    Rule {
-        kind,
-        instead: kind,
+    Rules {
+        count,
+        kinds,
+        instead: kinds,
         needed,
         single,
     }
 }
 
-// Those beyond the count are there for the array's sake.
-fn first_rules(count: usize, a: Rule, b: Rule) -> Rules
-    ensures { λ r. ⌜ r ≡ record { count = count; list = a ∷ b ∷ b ∷ b ∷ [] } ⌝ }
+fn rule_at(rules: Rules, i: usize) -> Rule
+    requires { ⌜ Filled rules × (i < 4) ⌝ }
+    ensures { λ r. ⌜ r ≡ ruleAt rules i ⌝ }
 {
-    Rules {
-        count,
-        list: [a, b, b, b],
+    let kinds = rules.kinds;
+    let instead = rules.instead;
+    let needed = rules.needed;
+    let single = rules.single;
+    Rule {
+        kind: kinds[i],
+        instead: instead[i],
+        needed: needed[i],
+        single: single[i],
     }
 }
 
@@ -120,10 +162,9 @@ pub fn is_missing(kind: u8, tlvs: &[u8]) -> bool
 {
     let rules = rules_of(kind);
     let n = rules.count;
-    let list = rules.list;
     let mut i: usize = 0;
     while i < n {
-        if lacks(list[i], tlvs) {
+        if lacks(rule_at(rules, i), tlvs) {
             return true;
         }
         i += 1;
@@ -166,11 +207,10 @@ pub fn put_missing(buf: &mut [u8], kind: u8, tlvs: &[u8]) -> usize
 {
     let rules = rules_of(kind);
     let n = rules.count;
-    let list = rules.list;
     let mut at: usize = 0;
     let mut i: usize = 0;
     while i < n {
-        at += put_if_missing(&mut buf[at..], list[i], tlvs);
+        at += put_if_missing(&mut buf[at..], rule_at(rules, i), tlvs);
         i += 1;
     }
     at
@@ -194,7 +234,7 @@ pub fn from_fault<'a>(kind: u8, tlvs: &'a [u8]) -> &'a [u8]
 {
     let rules = rules_of(kind);
     let n = rules.count;
-    let list = rules.list;
+    let single = rules.single;
     let mut seen = [false; 4];
     let mut at: usize = 0;
     loop {
@@ -215,7 +255,7 @@ pub fn from_fault<'a>(kind: u8, tlvs: &'a [u8]) -> &'a [u8]
                 }
                 let b = at + 4;
                 let e = b + len;
-                if is_fault(list[j], seen[j], &tlvs[b..e]) {
+                if is_fault(single[j], seen[j], t, &tlvs[b..e]) {
                     return &tlvs[at..];
                 }
                 seen[j] = true;
@@ -227,14 +267,13 @@ pub fn from_fault<'a>(kind: u8, tlvs: &'a [u8]) -> &'a [u8]
 
 // The place of the rule for a type; the count where there is none.
 fn place_of(rules: Rules, t: u16) -> usize
-    requires { ⌜ (rules .count ≤ 4) × (length (rules .list) ≡ 4) ⌝ }
+    requires { ⌜ Filled rules ⌝ }
     ensures { λ r. ⌜ r ≡ placeOf t (rulesIn rules) ⌝ }
 {
     let n = rules.count;
-    let list = rules.list;
     let mut i: usize = 0;
     while i < n {
-        let r = list[i];
+        let r = rule_at(rules, i);
         if t == r.kind {
             return i;
         }
@@ -243,14 +282,14 @@ fn place_of(rules: Rules, t: u16) -> usize
     n
 }
 
-// A TLV with this content is at fault by its rule; `again` tells that one stood before.
-fn is_fault(r: Rule, again: bool, content: &[u8]) -> bool
-    ensures { λ x. ⌜ x ≡ ((r .single && again) || not (contentOk (r .kind) (now (content .entry)))) ⌝ }
+// A TLV of type t with this content is at fault by its rule; `again` tells that one stood before.
+fn is_fault(single: bool, again: bool, t: u16, content: &[u8]) -> bool
+    ensures { λ r. ⌜ r ≡ ((single && again) || not (contentOk t (now (content .entry)))) ⌝ }
 {
-    if r.single && again {
+    if single && again {
         return true;
     }
-    !content_ok(r.kind, content)
+    !content_ok(t, content)
 }
 
 fn content_ok(t: u16, content: &[u8]) -> bool

@@ -17,7 +17,11 @@ returns-2 c = rw (ne-eqb _ _ (c .before .if1 .left)) (c .length-ok .ensures)
 pub content-ok-spec : {M : Type 1} → statement M
 content-ok-spec = tie.close
     (tie.spec
-    (λ c κs. search needs)
+    (λ
+    c
+    κs.
+    search
+    needs)
     returns
     (λ c κs. search needs)
     returns-2)

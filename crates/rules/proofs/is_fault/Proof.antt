@@ -7,9 +7,9 @@ use borrow.Author.Needs.{needs}
 use Rattle.rules.proofs.is_fault.Statement.{statement}
 use Rattle.rules.proofs.is_fault.Tie as tie
 
--- src/lib.rt:246:1
+-- src/lib.rt:286:1
 returns-2 : tie.Need-returns-2
-returns-2 c = ap not (c .content-ok .ensures) ∙ ⊎-elim (λ w. again-left (c .before .before .before .args .r .single) (c .before .before .before .args .again) (contentOk (c .before .before .before .args .r .kind) (c .before .before .before .args .content .now)) (w .1 .left)) (λ w. single-left (c .before .before .before .args .r .single) (c .before .before .before .args .again) (contentOk (c .before .before .before .args .r .kind) (c .before .before .before .args .content .now)) (w .left)) (c .before .if1 .came)
+returns-2 c = let a = c .before .before .before .args in ap not (c .content-ok .ensures) ∙ ⊎-elim (λ w. again-left (a .single) (a .again) (contentOk (a .t) (a .content .now)) (w .1 .left)) (λ w. single-left (a .single) (a .again) (contentOk (a .t) (a .content .now)) (w .left)) (c .before .if1 .came)
 
 pub is-fault-spec : {M : Type 1} → statement M
 is-fault-spec = tie.close

@@ -22,7 +22,11 @@ pub lacks-spec : {M : Type 1} → statement M
 lacks-spec = tie.close
     (tie.spec
     returns
-    (λ c κs. search needs)
+    (λ
+    c
+    κs.
+    search
+    needs)
     returns-2
     (λ c κs. search needs)
     returns-3)

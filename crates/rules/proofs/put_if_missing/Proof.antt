@@ -17,7 +17,11 @@ pub put-if-missing-spec : {M : Type 1} → statement M
 put-if-missing-spec =
     tie.close
     (tie.spec
-    (λ c κs. search needs)
+    (λ
+    c
+    κs.
+    search
+    needs)
     (λ c κs. search needs)
     (λ c. search needs)
     returns

@@ -25,7 +25,11 @@ pub stands-spec : {M : Type 1} → statement M
 stands-spec =
     tie.close
     (tie.spec
-    (λ c κs. search needs)
+    (λ
+    c
+    κs.
+    search
+    needs)
     (λ c κs. search needs)
     (λ c. search needs)
     (λ c. search needs)
