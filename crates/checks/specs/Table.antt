@@ -73,6 +73,12 @@ tableOf ids card h s =
     (Refused 0x2))
     (Refused 0x51)
 
+-- the fields of a header that the rows read
+pub record HasFields (h : Header) (kind result transaction : ℕ) : Type 0 where
+  pub is-kind : h .kind ≡ kind
+  pub is-result : h .result ≡ result
+  pub is-transaction : h .transaction ≡ transaction
+
 -- ---- what is enclosed
 
 -- a copy of the first of some TLVs

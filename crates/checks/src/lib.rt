@@ -10,12 +10,13 @@ ghost use lib.ListN.{length};
 ghost use lib.Dec.{ltb};
 ghost use Rattle.octets.specs.Writing.{Wrote};
 ghost use Rattle.items.specs.Items.{itemsOf};
+ghost use Rattle.header.specs.declared.Header.{Header};
 ghost use Rattle.rules.specs.Rules.{rulesOf};
 ghost use Rattle.rules.specs.Named.{missing, bares};
 ghost use Rattle.circuits.specs.Circuits.{portOf};
 ghost use Rattle.replies.specs.Replies.{refusalOf};
 ghost use Rattle.card.specs.Cards.{Card};
-ghost use Rattle.checks.specs.Table.{idIn, portNamed, Located, located, faults, namedRows, tableOf, copyOf, enclosedOf, refusedOf};
+ghost use Rattle.checks.specs.Table.{idIn, portNamed, HasFields, Located, located, faults, namedRows, tableOf, copyOf, enclosedOf, refusedOf};
 
 pub enum Verdict {
     // The result code of the row that refuses the message.
@@ -35,23 +36,31 @@ pub fn port_named(ids: &[u8; 4096], port_count: usize, tlvs: &[u8]) -> usize
     }
 }
 
-// `named` is what `port_named` gave, and `up` tells whether that port is up.
-pub fn check_table(named: usize, up: bool, h: Header, tlvs: &[u8]) -> Verdict
-    ensures { λ r. ⌜ ((ids : List ℕ) (card : Card) → Located ids card (now (tlvs .entry)) named up → r ≡ tableOf ids card h (now (tlvs .entry))) ⌝ }
+// `named` is what `port_named` gave, and `up` tells whether that port is up; then the fields of the header that the rows
+// read, one by one: a struct would be stored to be read again.
+pub fn check_table(
+    named: usize,
+    up: bool,
+    kind: u8,
+    result: u8,
+    transaction: u32,
+    tlvs: &[u8],
+) -> Verdict
+    ensures { λ r. ⌜ ((ids : List ℕ) (card : Card) (h : Header) → HasFields h kind result transaction → Located ids card (now (tlvs .entry)) named up → r ≡ tableOf ids card h (now (tlvs .entry))) ⌝ }
 {
-    if !rules::handled(h.kind) {
+    if !rules::handled(kind) {
         return Verdict::Refused(0x51);
     }
-    if !rules::result_ok(h.kind, h.result) {
+    if !rules::result_ok(kind, result) {
         return Verdict::Refused(0x2);
     }
-    if !rules::transaction_ok(h.kind, h.transaction) {
+    if !rules::transaction_ok(kind, transaction) {
         return Verdict::Refused(0x2);
     }
-    if !tlv::check_list(tlvs, tlv::depth_of(h.result), false) {
+    if !tlv::check_list(tlvs, tlv::depth_of(result), false) {
         return Verdict::Refused(0x53);
     }
-    check_named(named, up, h.kind, tlvs)
+    check_named(named, up, kind, tlvs)
 }
 
 fn check_named(named: usize, up: bool, kind: u8, tlvs: &[u8]) -> Verdict

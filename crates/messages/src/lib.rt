@@ -133,7 +133,7 @@ fn offered(terms: Terms, p: usize, h: Header, tlvs: &[u8]) -> Effect
     ensures { λ r. ⌜ ((ids : List ℕ) (pool : Pool) (text : List ℕ) → p ≡ portNamed ids (terms .head .«port_count») (now (tlvs .entry)) → ComesTo (λ card. offered card h (now (tlvs .entry)) (tableOf ids card h (now (tlvs .entry)))) p terms pool pool r text text) ⌝ }
 {
     let x = terms.port;
-    let verdict = checks::check_table(p, x.up, h, tlvs);
+    let verdict = checks::check_table(p, x.up, h.kind, h.result, h.transaction, tlvs);
     match verdict {
         Verdict::Refused(code) => unchanged(terms, refused_number(code)),
         Verdict::Passed(_) => {
@@ -175,7 +175,7 @@ fn requested(
     ensures { λ r. ⌜ ComesTo (λ card. requested (now (ids .entry)) (now (channels .entry)) card h (now (tlvs .entry)) (tableOf (now (ids .entry)) card h (now (tlvs .entry)))) p terms (poolOf (now (owner .entry)) (now (channel .entry)) (now (charged .entry)) (now (accounting .entry))) (poolOf (now (owner .exit)) (now (channel .exit)) (now (charged .exit)) (now (accounting .exit))) r (now (reply .entry)) (now (reply .exit)) ⌝ }
 {
     let x = terms.port;
-    let verdict = checks::check_table(p, x.up, h, tlvs);
+    let verdict = checks::check_table(p, x.up, h.kind, h.result, h.transaction, tlvs);
     match verdict {
         Verdict::Refused(code) => {
             let n = checks::put_refused(reply, h, tlvs, code);

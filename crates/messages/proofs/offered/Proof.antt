@@ -15,7 +15,7 @@ use Rattle.messages.proofs.offered.Tie as tie
 
 returns : tie.Need-returns
 unfolding offered
-returns c = λ ids pool text e. let a = c .before .before .before .before .before .before .before .before .args in comes-kept refl (c .before .refused-number .result) (c .unchanged .ensures) (λ card t. ap (keeps (withPool card pool)) (c .before .refused-number .ensures) ∙ verdict-offered (withPool card pool) (a .h) (a .tlvs .now) (c .before .before .before .before .before .check-table .ensures ids (withPool card pool) (located-by pool t e)) (c .before .before .before .verdict .given .1))
+returns c = λ ids pool text e. let a = c .before .before .before .before .before .before .before .before .args in comes-kept refl (c .before .refused-number .result) (c .unchanged .ensures) (λ card t. ap (keeps (withPool card pool)) (c .before .refused-number .ensures) ∙ verdict-offered (withPool card pool) (a .h) (a .tlvs .now) (c .before .before .before .before .before .check-table .ensures ids (withPool card pool) (a .h) (record { is-kind = refl; is-result = refl; is-transaction = refl }) (located-by pool t e)) (c .before .before .before .verdict .given .1))
 
 returns-2 : tie.Need-returns-2
 unfolding offered
@@ -23,7 +23,7 @@ returns-2 c = λ ids pool text e.
     let a = c .before .before .before .before .before .before .before .before .args in
     comes-as (comes-at (c .transfer .ensures pool text))
     (λ card t.
-    let table = c .before .before .before .before .before .check-table .ensures ids (withPool card pool) (located-by pool t e) in
+    let table = c .before .before .before .before .before .check-table .ensures ids (withPool card pool) (a .h) (record { is-kind = refl; is-result = refl; is-transaction = refl }) (located-by pool t e) in
     ap (transferred (withPool card pool) (a .h) (a .terms .at)) (c .before .allocation-in .ensures ∙ ap allocationIn (c .before .before .first-of .ensures))
     ∙ ap (λ (q : ℕ). transferred (withPool card pool) (a .h) q (allocationIn (firstOf 0x0015 (itemsOf (a .tlvs .now))))) (sym (passed-at ids (a .tlvs .now) pool t e (a .h) (sym table ∙ c .before .before .before .enum-told .given .1)))
     ∙ verdict-offered (withPool card pool) (a .h) (a .tlvs .now) table (c .before .before .before .enum-told .given .1))

@@ -20,7 +20,7 @@ returns c =
     let a = c .before .before .before .before .before .before .before .before .before .before .before .before .args in
     let pool = maps (c .before .before .before .before .before .before .before .before .before .before .before .before) in
     comes-replied refl (c .changed .ensures) (c .before .before .before .put-refused .ensures)
-    (λ card t. verdict-requested (a .ids .now) (a .channels .now) (withPool card pool) (a .h) (a .tlvs .now) (c .before .before .before .before .before .before .before .before .check-table .ensures (a .ids .now) (withPool card pool) (located-by pool t (c .before .before .before .before .before .before .before .before .before .before .before .before .pre .1 .1 .1))) (c .before .before .before .before .before .before .verdict .given .1))
+    (λ card t. verdict-requested (a .ids .now) (a .channels .now) (withPool card pool) (a .h) (a .tlvs .now) (c .before .before .before .before .before .before .before .before .check-table .ensures (a .ids .now) (withPool card pool) (a .h) (record { is-kind = refl; is-result = refl; is-transaction = refl }) (located-by pool t (c .before .before .before .before .before .before .before .before .before .before .before .before .pre .1 .1 .1))) (c .before .before .before .before .before .before .verdict .given .1))
 
 returns-2 : tie.Need-returns-2
 unfolding requested
@@ -29,7 +29,7 @@ returns-2 c =
     let pool = maps (c .before .before .before .before .before .before .before .before .before .before .before .before .before .before) in
     comes-as (comes-at (c .before .before .by-type .ensures))
     (λ card t.
-    let table = c .before .before .before .before .before .before .before .before .before .before .check-table .ensures (a .ids .now) (withPool card pool) (located-by pool t (c .before .before .before .before .before .before .before .before .before .before .before .before .before .before .pre .1 .1 .1)) in
+    let table = c .before .before .before .before .before .before .before .before .before .before .check-table .ensures (a .ids .now) (withPool card pool) (a .h) (record { is-kind = refl; is-result = refl; is-transaction = refl }) (located-by pool t (c .before .before .before .before .before .before .before .before .before .before .before .before .before .before .pre .1 .1 .1)) in
     ap (byType (a .ids .now) (a .channels .now) (withPool card pool) (a .h) (a .tlvs .now)) (sym (passed-at (a .ids .now) (a .tlvs .now) pool t (c .before .before .before .before .before .before .before .before .before .before .before .before .before .before .pre .1 .1 .1) (a .h) (sym table ∙ c .before .before .before .before .before .before .before .before .enum-told .given .1)))
     ∙ verdict-requested (a .ids .now) (a .channels .now) (withPool card pool) (a .h) (a .tlvs .now) table (c .before .before .before .before .before .before .before .before .enum-told .given .1))
 
