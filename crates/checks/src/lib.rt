@@ -2,17 +2,18 @@
 use fields::TARGET;
 use header::Header;
 use rows::Found;
+use rules::Rules;
 use tlv::First;
 ghost use mathlib.Core.Path.{_≡_};
-ghost use mathlib.Core.List.{List};
+ghost use mathlib.Core.List.{List, []};
 ghost use Prim.Native.Nat.{ℕ, _≤_};
 ghost use lib.ListN.{length};
 ghost use lib.Dec.{ltb};
 ghost use Rattle.octets.specs.Writing.{Wrote};
 ghost use Rattle.items.specs.Items.{itemsOf};
 ghost use Rattle.header.specs.declared.Header.{Header};
-ghost use Rattle.rules.specs.Rules.{rulesOf};
-ghost use Rattle.rules.specs.Named.{missing, bares};
+ghost use Rattle.rules.specs.Rules.{rulesOf, Filled, rulesIn};
+ghost use Rattle.rules.specs.Named.{missing, bares, fromFault};
 ghost use Rattle.circuits.specs.Circuits.{portOf};
 ghost use Rattle.replies.specs.Replies.{refusalOf};
 ghost use Rattle.card.specs.Cards.{Card};
@@ -66,10 +67,11 @@ pub fn check_table(
 fn check_named(named: usize, up: bool, kind: u8, tlvs: &[u8]) -> Verdict
     ensures { λ r. ⌜ ((ids : List ℕ) (card : Card) → Located ids card (now (tlvs .entry)) named up → r ≡ namedRows ids card kind (now (tlvs .entry))) ⌝ }
 {
-    if rules::is_missing(kind, tlvs) {
+    let rules = rules::rules_of(kind);
+    if rules::is_missing(rules, tlvs) {
         return Verdict::Refused(0x54);
     }
-    if has_fault(kind, tlvs) {
+    if has_fault(rules, tlvs) {
         return Verdict::Refused(0x55);
     }
     check_port(named, up)
@@ -95,10 +97,11 @@ pub fn id_in<'a>(tlvs: &'a [u8]) -> &'a [u8]
 }
 
 // A TLV is at fault.
-fn has_fault(kind: u8, tlvs: &[u8]) -> bool
-    ensures { λ r. ⌜ r ≡ ltb 0 (length (faults kind (now (tlvs .entry)))) ⌝ }
+fn has_fault(rules: Rules, tlvs: &[u8]) -> bool
+    requires { ⌜ Filled rules ⌝ }
+    ensures { λ r. ⌜ r ≡ ltb 0 (length (fromFault (rulesIn rules) [] (itemsOf (now (tlvs .entry))))) ⌝ }
 {
-    let next = tlv::first_tlv(rules::from_fault(kind, tlvs));
+    let next = tlv::first_tlv(rules::from_fault(rules, tlvs));
     match next {
         First::End => false,
         First::Broken => false,
@@ -136,7 +139,7 @@ fn refuse_fault(reply: &mut [u8], h: Header, tlvs: &[u8]) -> usize
     requires { ⌜ (4608 ≤ length (now reply)) × (length (now tlvs) ≤ 4096) ⌝ }
     ensures { λ r. ⌜ Wrote (refusalOf h 0x55 (copyOf (faults (h .kind) (now (tlvs .entry))))) r (now (reply .entry)) (now (reply .exit)) ⌝ }
 {
-    let t = rules::from_fault(h.kind, tlvs);
+    let t = rules::from_fault(rules::rules_of(h.kind), tlvs);
     let next = tlv::first_tlv(t);
     match next {
         First::End => replies::refuse(reply, h, 0x55),
@@ -152,7 +155,7 @@ fn refuse_missing(reply: &mut [u8], h: Header, tlvs: &[u8]) -> usize
     requires { ⌜ 4608 ≤ length (now reply) ⌝ }
     ensures { λ r. ⌜ Wrote (refusalOf h 0x54 (bares (missing (rulesOf (h .kind)) (itemsOf (now (tlvs .entry)))))) r (now (reply .entry)) (now (reply .exit)) ⌝ }
 {
-    let n = rules::put_missing(&mut reply[24..], h.kind, tlvs);
+    let n = rules::put_missing(&mut reply[24..], rules::rules_of(h.kind), tlvs);
     replies::put_refusal(reply, h, 0x54, n);
     24 + n
 }

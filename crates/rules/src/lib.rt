@@ -157,10 +157,10 @@ fn rule_at(rules: Rules, i: usize) -> Rule
 // ---- what is missing
 
 // One of the types that a message needs is missing.
-pub fn is_missing(kind: u8, tlvs: &[u8]) -> bool
-    ensures { λ r. ⌜ r ≡ ltb 0 (length (missing (rulesOf kind) (itemsOf (now (tlvs .entry))))) ⌝ }
+pub fn is_missing(rules: Rules, tlvs: &[u8]) -> bool
+    requires { ⌜ Filled rules ⌝ }
+    ensures { λ r. ⌜ r ≡ ltb 0 (length (missing (rulesIn rules) (itemsOf (now (tlvs .entry))))) ⌝ }
 {
-    let rules = rules_of(kind);
     let n = rules.count;
     let mut i: usize = 0;
     while i < n {
@@ -201,11 +201,10 @@ fn stands(tlvs: &[u8], kind: u16) -> bool
 }
 
 // A bare header of each missing type, each directly behind the one before it.
-pub fn put_missing(buf: &mut [u8], kind: u8, tlvs: &[u8]) -> usize
-    requires { ⌜ 16 ≤ length (now buf) ⌝ }
-    ensures { λ r. ⌜ Wrote (bares (missing (rulesOf kind) (itemsOf (now (tlvs .entry))))) r (now (buf .entry)) (now (buf .exit)) ⌝ }
+pub fn put_missing(buf: &mut [u8], rules: Rules, tlvs: &[u8]) -> usize
+    requires { ⌜ (16 ≤ length (now buf)) × Filled rules ⌝ }
+    ensures { λ r. ⌜ Wrote (bares (missing (rulesIn rules) (itemsOf (now (tlvs .entry))))) r (now (buf .entry)) (now (buf .exit)) ⌝ }
 {
-    let rules = rules_of(kind);
     let n = rules.count;
     let mut at: usize = 0;
     let mut i: usize = 0;
@@ -229,10 +228,10 @@ fn put_if_missing(buf: &mut [u8], r: Rule, tlvs: &[u8]) -> usize
 // ---- what is at fault
 
 // The part from the first TLV at fault on. A rule is `seen` once a TLV of its type has stood.
-pub fn from_fault<'a>(kind: u8, tlvs: &'a [u8]) -> &'a [u8]
-    ensures { λ r. ⌜ itemsOf (now r) ≡ fromFault (rulesOf kind) [] (itemsOf (now (tlvs .entry))) ⌝ }
+pub fn from_fault<'a>(rules: Rules, tlvs: &'a [u8]) -> &'a [u8]
+    requires { ⌜ Filled rules ⌝ }
+    ensures { λ r. ⌜ itemsOf (now r) ≡ fromFault (rulesIn rules) [] (itemsOf (now (tlvs .entry))) ⌝ }
 {
-    let rules = rules_of(kind);
     let n = rules.count;
     let single = rules.single;
     let mut seen = [false; 4];

@@ -12,7 +12,6 @@ use Rattle.checks.proofs.check_table.Tie as tie
 sound : (c : tie.After-check-list) → c .check-list .result ≡ listOk (depthOf (c .before .before .before .before .before .before .before .before .before .args .result)) false (c .before .before .before .before .before .before .before .before .before .args .tlvs .now)
 sound c = c .check-list .ensures ∙ ap (λ (d : ℕ). listOk d false (c .before .before .before .before .before .before .before .before .before .args .tlvs .now)) (c .before .depth-of .ensures)
 
-
 -- src/lib.rt:52:9
 returns : tie.Need-returns
 unfolding tableOf

@@ -14,12 +14,15 @@ use Rattle.checks.proofs.has_fault.Tie as tie
 some : {l is : List Item} {i : Item} → l ≡ i ∷ is → true ≡ ltb 0 (length l)
 some {l} e = sym (lt-ltb 0 (length l) (omega (arith, ap length e)))
 
+-- src/lib.rt:100:1
 returns : tie.Need-returns
 returns c = rw (sym (c .before .before .before .from-fault .ensures) ∙ items-end _ (c .before .before .first-tlv .ensures) (c .enum-told .given .1))
 
+-- src/lib.rt:100:1
 returns-2 : tie.Need-returns-2
 returns-2 c = rw (sym (c .before .before .before .from-fault .ensures) ∙ items-broken _ (c .before .before .first-tlv .ensures) (c .enum-told2 .given .1))
 
+-- src/lib.rt:100:1
 returns-3 : tie.Need-returns-3
 returns-3 c = some (sym (c .before .before .before .from-fault .ensures) ∙ items-tlv _ (c .before .before .first-tlv .ensures) (c .enum-told3 .given .1))
 

@@ -14,6 +14,9 @@ returns-2 c = let a = c .before .before .before .args in ap not (c .content-ok .
 pub is-fault-spec : {M : Type 1} → statement M
 is-fault-spec = tie.close
     (tie.spec
-    (λ c. search needs)
+    (λ
+    c.
+    search
+    needs)
     (λ c κs. search needs)
     returns-2)

@@ -50,7 +50,10 @@ place-of-spec =
     loop-holds
     rule-at-requires
     returns
-    (λ c. search needs)
+    (λ
+    c.
+    search
+    needs)
     (λ c. search needs)
     loop-again
     returns-2)

@@ -16,47 +16,47 @@ use Rattle.rules.proofs.put_missing.Statement.{statement}
 use Rattle.rules.proofs.put_missing.Tie as tie
 
 abbrev Inv-loop : tie.InvT-loop
-Inv-loop buf₀ kind tlvs rules n at₀ i₀ buf at i = (i ≤ n) × (length buf ≡ length buf₀) × Wrote (bares (missing (take i (allRules rules)) (itemsOf tlvs))) at buf₀ buf
+Inv-loop buf₀ rules tlvs n at₀ i₀ buf at i = (i ≤ n) × (length buf ≡ length buf₀) × Wrote (bares (missing (take i (allRules rules)) (itemsOf tlvs))) at buf₀ buf
 
 abbrev μ-loop : tie.MeasureT-loop
-μ-loop buf₀ kind tlvs rules n at₀ i₀ buf at i = n - i
+μ-loop buf₀ rules tlvs n at₀ i₀ buf at i = n - i
 
 -- past the reading of a rule: it is the one at that place
-same : (c : tie.After-rule-at Inv-loop μ-loop) → c .rule-at .result ≡ getD (allRules (c .before .before .before .before .rules-of .result)) (c .before .before .before .loop .i) none
-same c = c .rule-at .ensures ∙ sym (rule-is (c .before .before .before .before .rules-of .result) (c .before .before .before .loop .i) (omega (arith, c .before .before .before .before .rules-of .ensures .0 .few)))
+same : (c : tie.After-rule-at Inv-loop μ-loop) → c .rule-at .result ≡ getD (allRules (c .before .before .before .before .before .before .args .rules)) (c .before .before .before .loop .i) none
+same c = c .rule-at .ensures ∙ sym (rule-is (c .before .before .before .before .before .before .args .rules) (c .before .before .before .loop .i) (omega (arith, c .before .before .before .before .before .before .pre .1 .few)))
 
--- src/lib.rt:212:5
+-- src/lib.rt:211:5
 loop-holds : tie.Need-loop-holds Inv-loop μ-loop
 unfolding bares missing
 loop-holds c = (search needs, refl, record { size = refl; text = over-none _ })
 
--- src/lib.rt:213:30
+-- src/lib.rt:212:30
 sub-put-if-missing : tie.Need-sub-put-if-missing Inv-loop μ-loop
-sub-put-if-missing c = omega (arith, bares-most (itemsOf (c .before .before .before .before .before .args .tlvs .now)) (allRules (c .before .before .rules-of .result)) (c .before .loop .i), c .before .loop .inv .2 .size, c .before .before .rules-of .ensures .0 .few)
+sub-put-if-missing c = omega (arith, bares-most (itemsOf (c .before .before .before .before .args .tlvs .now)) (allRules (c .before .before .before .before .args .rules)) (c .before .loop .i), c .before .loop .inv .2 .size, c .before .before .before .before .pre .1 .few)
 
--- src/lib.rt:213:30
+-- src/lib.rt:212:30
 part-put-if-missing-start : tie.Need-part-put-if-missing-start Inv-loop μ-loop
-part-put-if-missing-start c = omega (arith, bares-most (itemsOf (c .before .before .before .before .before .args .tlvs .now)) (allRules (c .before .before .rules-of .result)) (c .before .loop .i), c .before .loop .inv .2 .size, c .before .before .rules-of .ensures .0 .few)
+part-put-if-missing-start c = omega (arith, bares-most (itemsOf (c .before .before .before .before .args .tlvs .now)) (allRules (c .before .before .before .before .args .rules)) (c .before .loop .i), c .before .loop .inv .2 .size, c .before .before .before .before .pre .1 .few)
 
--- src/lib.rt:213:46
+-- src/lib.rt:212:46
 rule-at-requires : tie.Need-rule-at-requires Inv-loop μ-loop
-rule-at-requires c κs = (c .before .before .before .rules-of .ensures .0, omega (arith, c .before .before .before .rules-of .ensures .0 .few))
+rule-at-requires c κs = (c .before .before .before .before .before .pre .1, omega (arith, c .before .before .before .before .before .pre .1 .few))
 
--- src/lib.rt:213:15
+-- src/lib.rt:212:15
 put-if-missing-requires : tie.Need-put-if-missing-requires Inv-loop μ-loop
-put-if-missing-requires c κs = simp (rest-part, length-drop) (omega (arith, bares-most (itemsOf (c .before .before .before .before .before .before .before .args .tlvs .now)) (allRules (c .before .before .before .before .rules-of .result)) (c .before .before .before .loop .i), c .before .before .before .loop .inv .2 .size, c .before .before .before .before .rules-of .ensures .0 .few))
+put-if-missing-requires c κs = simp (rest-part, length-drop) (omega (arith, bares-most (itemsOf (c .before .before .before .before .before .before .args .tlvs .now)) (allRules (c .before .before .before .before .before .before .args .rules)) (c .before .before .before .loop .i), c .before .before .before .loop .inv .2 .size, c .before .before .before .before .before .before .pre .1 .few))
 
--- src/lib.rt:213:9
+-- src/lib.rt:212:9
 add-at : tie.Need-add-at Inv-loop μ-loop
-add-at c = omega (arith, c .before .before .put-if-missing .ensures .size, bares-most (itemsOf (c .before .before .before .before .before .before .before .before .before .before .args .tlvs .now)) (c .before .before .before .rule-at .result ∷ []) 1, bares-most (itemsOf (c .before .before .before .before .before .before .before .before .before .before .args .tlvs .now)) (allRules (c .before .before .before .before .before .before .before .rules-of .result)) (c .before .before .before .before .before .before .loop .i), c .before .before .before .before .before .before .loop .inv .2 .size, c .before .before .before .before .before .before .before .rules-of .ensures .0 .few)
+add-at c = omega (arith, c .before .before .put-if-missing .ensures .size, bares-most (itemsOf (c .before .before .before .before .before .before .before .before .before .args .tlvs .now)) (c .before .before .before .rule-at .result ∷ []) 1, bares-most (itemsOf (c .before .before .before .before .before .before .before .before .before .args .tlvs .now)) (allRules (c .before .before .before .before .before .before .before .before .before .args .rules)) (c .before .before .before .before .before .before .loop .i), c .before .before .before .before .before .before .loop .inv .2 .size, c .before .before .before .before .before .before .before .before .before .pre .1 .few)
 
--- src/lib.rt:212:5
+-- src/lib.rt:211:5
 loop-again : tie.Need-loop-again Inv-loop μ-loop
-loop-again c = (omega arith, search needs, bares-turn (itemsOf (c .before .before .before .before .before .before .before .before .before .before .args .tlvs .now)) (allRules (c .before .before .before .before .before .before .before .rules-of .result)) {i = c .before .before .before .before .before .before .loop .i} (omega (arith, c .before .before .before .before .before .before .before .rules-of .ensures .0 .few)) (c .before .before .before .before .before .before .loop .inv .2) (rw (same (c .before .before .before)) at (c .before .before .put-if-missing .ensures)))
+loop-again c = (omega arith, search needs, bares-turn (itemsOf (c .before .before .before .before .before .before .before .before .before .args .tlvs .now)) (allRules (c .before .before .before .before .before .before .before .before .before .args .rules)) {i = c .before .before .before .before .before .before .loop .i} (omega (arith, c .before .before .before .before .before .before .before .before .before .pre .1 .few)) (c .before .before .before .before .before .before .loop .inv .2) (rw (same (c .before .before .before)) at (c .before .before .put-if-missing .ensures)))
 
 -- src/lib.rt:204:1
 returns : tie.Need-returns Inv-loop μ-loop
-returns c = let z : c .before .loop .i ≡ c .before .before .rules-of .result .count = omega arith in rw (c .before .before .rules-of .ensures .1) at (rw z at (c .before .loop .inv .2))
+returns c = let z : c .before .loop .i ≡ c .before .before .before .before .args .rules .count = omega arith in rw z at (c .before .loop .inv .2)
 
 pub put-missing-spec : {M : Type 1} → statement M
 put-missing-spec =
@@ -64,7 +64,6 @@ put-missing-spec =
     (tie.spec
     Inv-loop
     μ-loop
-    (λ c κs. search needs)
     loop-holds
     sub-put-if-missing
     part-put-if-missing-start

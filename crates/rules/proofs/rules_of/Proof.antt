@@ -41,7 +41,11 @@ pub rules-of-spec : {M : Type 1} → statement M
 rules-of-spec =
     tie.close
     (tie.spec
-    (λ c κs. search needs)
+    (λ
+    c
+    κs.
+    search
+    needs)
     returns
     (λ c κs. search needs)
     returns-2
