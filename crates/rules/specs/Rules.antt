@@ -24,7 +24,7 @@ resultOk kind result =
 
 -- transaction 0 is none: not in a 144, 146, 148 or 149. That of a 147 is compared with the open request's
 unfoldable pub transactionOk : ℕ → ℕ → Bool
-transactionOk kind transaction = cond (eqb kind 147) true (ltb 0 transaction)
+transactionOk kind transaction = eqb kind 147 || ltb 0 transaction
 
 -- the rule for the TLVs of type t in a message: `needed`, one of them must stand; `single`, no second one may. Where one
 -- of another type serves as well, that type stands in `instead`

@@ -66,63 +66,37 @@ pub fn result_ok(kind: u8, result: u8) -> bool
 pub fn transaction_ok(kind: u8, transaction: u32) -> bool
     ensures { λ r. ⌜ r ≡ transactionOk kind transaction ⌝ }
 {
-    if kind == 147 {
-        return true;
-    }
-    0 < transaction
+    kind == 147 || 0 < transaction
 }
 
-// One line for each type: how many rules, their types, whether one is needed, whether a second one is a fault.
+// Which of the rules: none, the first, the first two.
+const NONE: [bool; 4] = [false, false, false, false];
+
+const FIRST: [bool; 4] = [true, false, false, false];
+
+const BOTH: [bool; 4] = [true, true, false, false];
+
+// A line for each type: how many rules, the types of their TLVs, which of them are needed, which single.
 pub fn rules_of(kind: u8) -> Rules
     ensures whole { λ r. ⌜ Filled r ⌝ }
     ensures rules { λ r. ⌜ rulesIn r ≡ rulesOf kind ⌝ }
 {
     if kind == 144 {
-        return rules_with(
-            2,
-            [TARGET, COMMAND, 0, 0],
-            [true, true, false, false],
-            [true, false, false, false],
-        );
+        return rules_with(2, [TARGET, COMMAND, 0, 0], BOTH, FIRST);
     }
     if kind == 146 {
-        return rules_with(
-            2,
-            [TARGET, REQUEST, 0, 0],
-            [true, true, false, false],
-            [true, true, false, false],
-        );
+        return rules_with(2, [TARGET, REQUEST, 0, 0], BOTH, BOTH);
     }
     if kind == 147 {
-        return rules_with(
-            2,
-            [TARGET, ALLOCATION, 0, 0],
-            [true, true, false, false],
-            [true, true, false, false],
-        );
+        return rules_with(2, [TARGET, ALLOCATION, 0, 0], BOTH, BOTH);
     }
     if kind == 148 {
-        return rules_with(
-            1,
-            [TARGET, 0, 0, 0],
-            [true, false, false, false],
-            [true, false, false, false],
-        );
+        return rules_with(1, [TARGET, 0, 0, 0], FIRST, FIRST);
     }
     if kind == 149 {
-        return rules_with(
-            1,
-            [TARGET, 0, 0, 0],
-            [true, false, false, false],
-            [true, false, false, false],
-        );
+        return rules_with(1, [TARGET, 0, 0, 0], FIRST, FIRST);
     }
-    rules_with(
-        0,
-        [0, 0, 0, 0],
-        [false, false, false, false],
-        [false, false, false, false],
-    )
+    rules_with(0, [0, 0, 0, 0], NONE, NONE)
 }
 
 // No other type serves instead.

@@ -3,12 +3,12 @@ use Rattle.rules.specs.Rules.{transactionOk}
 use Rattle.rules.proofs.transaction_ok.Statement.{statement}
 use Rattle.rules.proofs.transaction_ok.Tie as tie
 
--- src/lib.rt:66:9
+-- src/lib.rt:66:1
 returns : tie.Need-returns
 unfolding transactionOk
 returns c = rw (eq-eqb _ _ (c .if1 .taken))
 
--- src/lib.rt:62:1
+-- src/lib.rt:66:1
 returns-2 : tie.Need-returns-2
 unfolding transactionOk
 returns-2 c = rw (ne-eqb _ _ (c .if1 .left))
