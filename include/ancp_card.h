@@ -41,8 +41,8 @@ extern "C" {
 #endif
 
 /* ---- the version: what the library says is ancp_card_version(), and a start refuses another one */
-#define ANCP_VERSION "0.1.0"
-#define ANCP_VERSION_NUMBER 100u
+#define ANCP_VERSION "0.1.1"
+#define ANCP_VERSION_NUMBER 101u
 
 /* ---- what comes back from a call */
 typedef ANCP_ENUM(ancp_number) {
@@ -449,7 +449,8 @@ static inline ancp_number ancp_card_ask(ancp_card *card, const ancp_tables *t, s
     return ancp_calls(card, t, &call, NULL, 0, reply, space, length);
 }
 
-/* A message from the server is carried out, and its answer, if one is due, is written. */
+/* A message from the server is carried out, and its answer, if one is due, is written. A request with transaction 0 is
+   answered with 0x2 and changes nothing: a server must number its requests from 1 on. */
 static inline ancp_number ancp_card_message(ancp_card *card, const ancp_tables *t, const uint8_t *octets, size_t n,
                                             uint8_t *reply, size_t space, size_t *length) {
     ancp_call call;
