@@ -2,22 +2,20 @@
 use fields::TARGET;
 use header::Header;
 use rows::Found;
-use rules::Rules;
 use tlv::First;
 ghost use mathlib.Core.Path.{_≡_};
-ghost use mathlib.Core.List.{List, []};
+ghost use mathlib.Core.List.{List};
 ghost use Prim.Native.Nat.{ℕ, _≤_};
 ghost use lib.ListN.{length};
-ghost use lib.Dec.{ltb};
 ghost use Rattle.octets.specs.Writing.{Wrote};
 ghost use Rattle.items.specs.Items.{itemsOf};
 ghost use Rattle.header.specs.declared.Header.{Header};
-ghost use Rattle.rules.specs.Rules.{rulesOf, Filled, rulesIn};
-ghost use Rattle.rules.specs.Named.{missing, bares, fromFault};
+ghost use Rattle.rules.specs.Rules.{rulesOf};
+ghost use Rattle.rules.specs.Named.{missing, bares};
 ghost use Rattle.circuits.specs.Circuits.{portOf};
 ghost use Rattle.replies.specs.Replies.{refusalOf};
 ghost use Rattle.card.specs.Cards.{Card};
-ghost use Rattle.checks.specs.Table.{idIn, portNamed, HasFields, Located, located, faults, namedRows, tableOf, copyOf, enclosedOf, refusedOf};
+ghost use Rattle.checks.specs.Table.{idIn, portNamed, HasFields, Located, located, faults, namedRows, tableOf, copyOf, refusedOf};
 
 pub enum Verdict {
     // The result code of the row that refuses the message.
@@ -71,7 +69,7 @@ fn check_named(named: usize, up: bool, kind: u8, tlvs: &[u8]) -> Verdict
     if rules::is_missing(rules, tlvs) {
         return Verdict::Refused(0x54);
     }
-    if has_fault(rules, tlvs) {
+    if rules::has_fault(rules, tlvs) {
         return Verdict::Refused(0x55);
     }
     check_port(named, up)
@@ -94,23 +92,6 @@ pub fn id_in<'a>(tlvs: &'a [u8]) -> &'a [u8]
     ensures { λ r. ⌜ now r ≡ idIn (now (tlvs .entry)) ⌝ }
 {
     fields::circuit_id(items::first_of(tlvs, TARGET))
-}
-
-// A TLV is at fault.
-fn has_fault(rules: Rules, tlvs: &[u8]) -> bool
-    requires { ⌜ Filled rules ⌝ }
-    ensures { λ r. ⌜ r ≡ ltb 0 (length (fromFault (rulesIn rules) [] (itemsOf (now (tlvs .entry))))) ⌝ }
-{
-    let next = tlv::first_tlv(rules::from_fault(rules, tlvs));
-    match next {
-        First::End => false,
-        First::Broken => false,
-        First::Tlv {
-            kind: _,
-            len: _,
-            size: _,
-        } => true,
-    }
 }
 
 // ---- refusals

@@ -5,10 +5,10 @@
 use Prim.Native.Nat.{ℕ, suc, _+_, _≤_, _<_}
 use mathlib.Core.Path.{_≡_, refl, sym, ap, subst, _∙_}
 use mathlib.Core.Logic.{_⊎_, ⊎-elim}
-use mathlib.Core.Bool.{Bool, true, false, cond, not, _&&_, _||_}
+use mathlib.Core.Bool.{Bool, true, false, cond, _&&_, _||_}
 use mathlib.Core.List.{List, [], _∷_}
 use native.Mathlib.Omega.{arith}
-use lib.ListN.{length, getD, drop, length-append}
+use lib.ListN.{length, drop, length-append}
 use lib.Dec.{eqb}
 use borrow.Author.Tests.{eq-eqb, ne-eqb, le-ltb, lt-ltb}
 use Rattle.octets.proofs.Tests.{taken, left}
@@ -16,14 +16,12 @@ use Rattle.header.specs.declared.Header.{Header}
 use Rattle.header.specs.Header.{headerIn, headIn}
 use Rattle.flows.specs.declared.Flow.{Flow}
 use Rattle.tlv.specs.Depth.{depthOf}
-use Rattle.items.specs.Items.{Item, itemsOf, ofType, countOf, firstOf}
-use Rattle.fields.specs.Fields.{circuitIds, lengthOk}
+use Rattle.items.specs.Items.{Item, itemsOf, ofType, countOf}
 use Rattle.circuits.specs.Circuits.{portOf}
 use Rattle.card.specs.Cards.{Card}
 use Rattle.checks.specs.declared.Verdict.the-variants.{Refused, Passed}
-use Rattle.rules.specs.declared.Rule.{Rule}
 use Rattle.rules.specs.Rules.{handled, resultOk, transactionOk, rule, rulesOf}
-use Rattle.rules.specs.Named.{lacks, missing, stood, atFault, fromFault}
+use Rattle.rules.specs.Named.{lacks, missing, stood, atFault}
 use Rattle.rules.proofs.Faults.{no-fault, commands-free}
 use Rattle.checks.specs.Table.{idIn, located, faults, namedRows, tableOf}
 use Rattle.control.specs.Control.{controlled}

@@ -2,17 +2,16 @@
 -- Assumes nothing.
 use Prim.Native.Nat.{ℕ, _<_}
 use mathlib.Core.Path.{_≡_, refl, sym, ap, _∙_}
-use mathlib.Core.Bool.{Bool, true, false, cond, _||_, not}
+use mathlib.Core.Bool.{Bool, true, false, cond, _||_}
 use mathlib.Core.List.{List, [], _∷_, _++_, append-nil, append-assoc}
 use native.Mathlib.Omega.{arith}
 use lib.Dec.{eqb}
-use borrow.Author.Tests.{eqb-true}
 use Rattle.octets.specs.Numbers.{oct8, oct16, oct24}
 use Rattle.header.specs.declared.Header.{Header}
 use Rattle.header.specs.Header.{headerIn, headerOf, messageOf}
 use Rattle.items.specs.Items.{Item, item, itemsOf, ofType, countOf, firstOf}
 use Rattle.items.proofs.Types.{count-miss}
-use Rattle.fields.specs.Fields.{circuitId, circuitIds, lengthOk, allocationIn, sequenceIn, statusTlvs}
+use Rattle.fields.specs.Fields.{circuitId, allocationIn, sequenceIn, statusTlvs}
 use Rattle.writers.specs.Tlvs.{tlvOf, bareOf, targetOf, statusOf, sequenceOf, allocationOf}
 use Rattle.replies.specs.Replies.{replyHeader, refusalOf, successOf, amountReply}
 use Rattle.rows.specs.declared.Found.the-variants.{At}

@@ -1,20 +1,17 @@
 -- A request with transaction 0 is refused with 0x2 before anything after its header is looked at. Assumes nothing.
 use Prim.Native.Nat.{ℕ, _≤_}
-use mathlib.Core.Path.{_≡_, refl, sym, ap, _∙_}
+use mathlib.Core.Path.{_≡_, refl}
 use mathlib.Core.Logic.{_⊎_, ⊎-elim}
 use mathlib.Core.Bool.{true, false, _&&_}
 use mathlib.Core.List.{List, []}
-use native.Mathlib.Omega.{arith}
-use lib.ListN.{drop}
 use lib.Dec.{eqb}
-use borrow.Author.Tests.{ne-eqb, le-ltb}
+use borrow.Author.Tests.{le-ltb}
 use Rattle.header.specs.Header.{sizeOk, usable, headerIn, headIn, messageOf}
 use Rattle.writers.specs.Tlvs.{statusOf}
 use Rattle.replies.specs.Replies.{replyHeader, refusalOf}
 use Rattle.card.specs.Cards.{Card}
 use Rattle.card.specs.Outcome.{Outcome, writes}
 use Rattle.rules.specs.Rules.{handled, resultOk, transactionOk}
-use Rattle.checks.specs.declared.Verdict.the-variants.{Refused}
 use Rattle.checks.specs.Table.{tableOf, enclosedOf}
 use Rattle.messages.specs.Messages.{isAnswer, isNotice, requested, byResult, byHead, receivedOf}
 use Rattle.demand3.specs.Calls.{Tables, outcomeOf}

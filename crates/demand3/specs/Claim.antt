@@ -78,7 +78,7 @@ AllSucceed t l p x (c ∷ cs) = Succeeds t (write l p x) p (directiveOf c) × Al
 abbrev pub ledgerAfter : Tables → Ledger → ℕ → List (List ℕ) → Ledger
 ledgerAfter t l p cs = write l p (actsAll t (l p) cs)
 
--- m is a request of this type for port p: usable, not of transaction 0, lengths and depth sound, with one Target that has one circuit id
+-- m is a request of this type for port p: usable, its transaction not 0, lengths and depth sound, one Target with one id
 pub record Sound (t : Tables) (m : List ℕ) (kind p : ℕ) : Type 0 where
   pub size : sizeOk m ≡ true
   pub header : usable m ≡ true

@@ -11,7 +11,7 @@ use lib.Dec.{eqb}
 use Rattle.octets.specs.Numbers.{padded}
 use Rattle.header.specs.declared.Header.{Header}
 use Rattle.header.proofs.Messages.{length-message}
-use Rattle.items.specs.Items.{Item, itemsOf, countOf, firstOf}
+use Rattle.items.specs.Items.{itemsOf, countOf, firstOf}
 use Rattle.fields.specs.Fields.{circuitIds}
 use Rattle.flows.specs.declared.Flow.{Flow}
 use Rattle.flows.specs.Words.{octetsOf}
@@ -19,7 +19,7 @@ use Rattle.flows.specs.Flows.{width}
 use Rattle.flow_octets.specs.FlowOctets.{sourceWords, flowTlv}
 use Rattle.flow_octets.proofs.FlowOctets.{width-le, length-octets}
 use Rattle.channels.specs.Channels.{channelAt}
-use Rattle.writers.specs.Tlvs.{bareOf, targetOf, statusOf, commandOf}
+use Rattle.writers.specs.Tlvs.{targetOf, statusOf, commandOf}
 use Rattle.writers.proofs.Tlvs.{length-tlv, length-target, length-flow, length-allocation, length-request, length-sequence, length-holder}
 use Rattle.replies.specs.Replies.{replyHeader, refusalOf, successOf, amountReply}
 use Rattle.begun.specs.Begun.{admissionOf, reallocationOf}

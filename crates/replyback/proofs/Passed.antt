@@ -1,22 +1,17 @@
 -- What is known of what follows past the table: a command's result code fits its field, and a port's rows are at most 16. Assumes nothing.
 use mathlib.Core.Path.{_≡_, refl, ap}
-use mathlib.Core.List.{List, [], _∷_, _++_}
-use mathlib.Core.Bool.{Bool, true, false, cond, not, _||_}
+use mathlib.Core.List.{List, [], _∷_}
+use mathlib.Core.Bool.{Bool, true, false, cond}
 use Prim.Native.Nat.{ℕ, suc, _+_, _≤_, _<_}
-use native.Mathlib.Nat.{pos-of-ne-zero}
 use native.Mathlib.Omega.{arith}
-use lib.ListN.{length, take, getD, length-append, length-take}
+use lib.ListN.{length, take, length-take}
 use lib.Dec.{eqb}
-use borrow.Author.Tests.{eqb-true, eqb-false}
-use Rattle.items.specs.Items.{Item, ofType, countOf, firstOf}
-use Rattle.fields.specs.Fields.{circuitIds, lengthOk, commandIn}
+use Rattle.fields.specs.Fields.{commandIn}
 use Rattle.flows.specs.Flows.{goodFlow}
 use Rattle.flow_octets.specs.FlowOctets.{flowFormed, flowNamed}
 use Rattle.rows.specs.declared.Found.{Found}
 use Rattle.rows.specs.declared.Found.the-variants.{At, Nothing}
 use Rattle.channels.specs.Channels.{channelOf}
-use Rattle.writers.specs.Tlvs.{bareOf}
-use Rattle.writers.proofs.Tlvs.{length-tlv}
 use Rattle.pool.specs.declared.Pool.{Pool}
 use Rattle.flows.specs.declared.Flow.{Flow}
 use Rattle.pool.specs.Pool.{isActive, hasFlow, rowsOf}

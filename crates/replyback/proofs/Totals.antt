@@ -2,7 +2,7 @@
 -- a Command of one message fit it both. Assumes nothing.
 use mathlib.Core.Path.{_≡_, refl, sym, _∙_}
 use mathlib.Core.List.{List, [], _∷_, _++_}
-use mathlib.Core.Bool.{Bool, true, false, cond, not, _||_}
+use mathlib.Core.Bool.{Bool, true, false, cond}
 use Prim.Native.Nat.{ℕ, zero, suc, _+_, _≤_, _<_}
 use native.Mathlib.Omega.{arith}
 use lib.ListN.{length, take, drop, getD, length-drop}
@@ -15,7 +15,7 @@ use Rattle.tlv.specs.First.{firstTlv}
 use Rattle.tlv.specs.Fold.{foldBy, foldUpTo, foldTlvs}
 use Rattle.tlv.proofs.Firsts.{FirstIs, ended, broke, stood, first-is}
 use Rattle.items.specs.Items.{Item, item, itemsOf, ofType, countOf, firstOf}
-use Rattle.fields.specs.Fields.{circuitIds, circuitId, lengthOk}
+use Rattle.fields.specs.Fields.{circuitIds, circuitId}
 use Rattle.writers.proofs.Tlvs.{length-tlv}
 use Rattle.checks.specs.Table.{copyOf}
 

@@ -100,9 +100,9 @@ module _ (others : List Rule) where
   abbrev rs : List Rule
   rs = rule 0x1000 true true ∷ others
 
-  pub stands-by : (is : List Item) → missing rs is ≡ [] → countOf 0x1000 is ≡ 0 → ⊥
+  stands-there : (is : List Item) → missing rs is ≡ [] → countOf 0x1000 is ≡ 0 → ⊥
   unfolding missing lacks
-  stands-by is e z = go (eqb (countOf 0x1000 is) 0) (eq-eqb (countOf 0x1000 is) 0 z) (missing others is) e
+  stands-there is e z = go (eqb (countOf 0x1000 is) 0) (eq-eqb (countOf 0x1000 is) 0 z) (missing others is) e
     where
       go : (b : Bool) → b ≡ true → (ts : List ℕ) → cond (b && b) (0x1000 ∷ ts) ts ≡ [] → ⊥
       go true h ts k = let n : _≡_ {A = ℕ} (suc (length ts)) 0 = ap length k in omega arith
@@ -166,7 +166,7 @@ module _ (kind : ℕ) (known : handled kind ≡ true) (is : List Item) (whole : 
   pub target-stands : countOf 0x1000 is ≡ 0 → ⊥
   target-stands =
       let t = target-first kind known in
-      stands-by (t .others) is (ap (λ (rs : List Rule). missing rs is) (sym (t .begins)) ∙ whole)
+      stands-there (t .others) is (ap (λ (rs : List Rule). missing rs is) (sym (t .begins)) ∙ whole)
 
   pub one-circuit : fromFault (rulesOf kind) [] is ≡ [] → circuitIds (firstOf 0x1000 is) ≡ 1
   one-circuit e =

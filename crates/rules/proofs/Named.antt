@@ -1,23 +1,22 @@
 -- What is missing among the TLVs that a message's rules name.
---     stands-none, stands-some     a TLV of a type stands, as the code tells it
+--     stands-by                    a TLV of a type stands, as the code tells it
 --     missing-on, missing-here, missing-end     a search for the first rule that lacks its TLV, turn by turn
 --     bares-turn, bares-most       bare headers written one directly after the other
 -- Assumes nothing.
 use mathlib.Core.Path.{_≡_, refl, sym, ap, _∙_}
 use mathlib.Core.Bool.{Bool, true, false, cond, not, _&&_, false≢true}
 use mathlib.Core.List.{List, [], _∷_, _++_, append-nil, append-assoc}
-use Prim.Native.Nat.{ℕ, zero, suc, _+_, _-_, _*_, _%_, _≤_, _<_}
+use Prim.Native.Nat.{ℕ, zero, suc, _+_, _-_, _*_, _≤_, _<_}
 use native.Mathlib.Omega.{arith}
 use native.Mathlib.Numerals.{add-one}
 use lib.ListN.{length, take, drop, getD, length-append, length-take, drop-of-length-le}
 use lib.Seq.{take-suc, drop-cons, getD-take, length-take-le}
 use lib.Dec.{eqb, ltb}
-use borrow.Author.Tests.{lt-ltb, eq-eqb, ne-eqb}
+use borrow.Author.Tests.{lt-ltb, ne-eqb}
 use borrow.Rule.Slice.PartMut.{putMid}
 use Rattle.octets.specs.Writing.{over, Wrote}
 use Rattle.octets.proofs.Writing.{lent-after}
 use Rattle.items.specs.Items.{Item, ofType, countOf, fromType}
-use Rattle.items.proofs.Types.{of-from}
 use Rattle.writers.specs.Tlvs.{bareOf}
 use Rattle.writers.proofs.Tlvs.{length-tlv}
 use Rattle.rules.specs.declared.Rule.{Rule}
@@ -27,19 +26,16 @@ use Rattle.rules.specs.Named.{lacks, missing, bares}
 
 -- ---- a TLV of type t stands
 module _ (t : ℕ) where
-  pub stands-none : (is : List Item) → fromType t is ≡ [] → countOf t is ≡ 0
-  unfolding countOf ofType
-  stands-none is e = ap length (sym (of-from t is) ∙ ap (ofType t) e)
+  some-by : (b : Bool) (x : Item) (xs : List Item) → ltb 0 (length (fromType t xs)) ≡ not (eqb (length (ofType t xs)) 0)
+      → ltb 0 (length (cond b (x ∷ xs) (fromType t xs))) ≡ not (eqb (length (cond b (x .content ∷ ofType t xs) (ofType t xs))) 0)
+  some-by true x xs h =
+      lt-ltb 0 (length (x ∷ xs)) (omega arith) ∙ sym (ap not (ne-eqb (length (x .content ∷ ofType t xs)) 0 (λ e. omega arith)))
+  some-by false x xs h = h
 
-  some-by : (b : Bool) (x : Item) (xs : List Item) {i : Item} {js : List Item} → (fromType t xs ≡ i ∷ js → length (ofType t xs) ≡ 0 → ⊥)
-      → cond b (x ∷ xs) (fromType t xs) ≡ i ∷ js → length (cond b (x .content ∷ ofType t xs) (ofType t xs)) ≡ 0 → ⊥
-  some-by true x xs f e z = omega arith
-  some-by false x xs f e z = f e z
-
-  pub stands-some : (is : List Item) {i : Item} {js : List Item} → fromType t is ≡ i ∷ js → countOf t is ≡ 0 → ⊥
+  pub stands-by : (is : List Item) → ltb 0 (length (fromType t is)) ≡ not (eqb (countOf t is) 0)
   unfolding countOf ofType fromType
-  stands-some [] {i} {js} e z = let n : _≡_ {A = ℕ} 0 (suc (length js)) = ap length e in omega arith
-  stands-some (x ∷ xs) e z = some-by (eqb (x .kind) t) x xs (stands-some xs) e z
+  stands-by [] = refl
+  stands-by (x ∷ xs) = some-by (eqb (x .kind) t) x xs (stands-by xs)
 
 -- ---- the first rule that lacks its TLV
 abbrev pub none : Rule

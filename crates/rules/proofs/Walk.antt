@@ -7,14 +7,12 @@ use mathlib.Core.Bool.{Bool, true, false, cond, not, _&&_, _||_}
 use mathlib.Core.List.{List, [], _∷_}
 use Prim.Native.Nat.{ℕ, zero, suc, _+_, _≤_, _<_}
 use native.Mathlib.Omega.{arith}
-use native.Mathlib.Numerals.{add-one}
 use lib.ListN.{length, take, drop, getD, set, replicate}
-use lib.Seq.{length-take-le, getD-set-same, getD-set-other}
+use lib.Seq.{getD-set-same, getD-set-other}
 use lib.Dec.{eqb}
 use borrow.Author.Tests.{eqb-true, eqb-false, eq-eqb, ne-eqb}
 use Rattle.items.specs.Items.{Item}
 use Rattle.rules.specs.declared.Rule.{Rule}
-use Rattle.rules.specs.Rules.{rule}
 use Rattle.rules.specs.Named.{contentOk, stood, atFault, fromFault, placeOf}
 use Rattle.rules.proofs.Named.{none, rules-cons, rules-past}
 

@@ -1,7 +1,7 @@
 -- What is missing, and what is at fault, among the TLVs that a message's rules name. Assumes nothing: these are
 -- definitions.
 use Prim.Native.Nat.{ℕ, suc}
-use mathlib.Core.Bool.{Bool, true, false, cond, not, _&&_, _||_}
+use mathlib.Core.Bool.{Bool, false, cond, not, _&&_, _||_}
 use mathlib.Core.List.{List, [], _∷_, _++_}
 use lib.Dec.{eqb}
 use Rattle.items.specs.Items.{Item, countOf}

@@ -22,17 +22,18 @@ resultOk kind result =
     (cond (eqb kind 147) true
     (eqb result 2)))
 
--- transaction 0 is none: not in a 144, 146, 148 or 149. That of a 147 is compared with the open request's
+-- zero is no transaction: a 144, 146, 148 or 149 has one from 1 on. That of a 147 is compared with the open request's
 unfoldable pub transactionOk : ℕ → ℕ → Bool
 transactionOk kind transaction = eqb kind 147 || ltb 0 transaction
 
--- the rule for the TLVs of type t in a message: `needed`, one of them must stand; `single`, no second one may. Where one
--- of another type serves as well, that type stands in `instead`
+-- the rule for the TLVs of type t in a message: `needed`, one of them must stand; `single`, no second one may. Where a
+-- TLV of another type serves as well, that type is `instead`; here none does
 abbrev pub rule : ℕ → Bool → Bool → Rule
 rule t needed single = record { kind = t; instead = t; needed = needed; single = single }
 
--- the TLVs that a message's rules name, in the row's order: Target 0x1000, Command 0x0011 (144), Bandwidth-Request
--- 0x0016 (146), Bandwidth-Allocation 0x0015 (147). All others are stepped over
+-- the TLVs that a message's rules name, in the row's order, each with its type, whether it is needed and whether it is
+-- single: Target 0x1000, Command 0x0011 (144), Bandwidth-Request 0x0016 (146), Bandwidth-Allocation 0x0015 (147). All
+-- others are stepped over
 unfoldable pub rulesOf : ℕ → List Rule
 rulesOf kind =
     cond (eqb kind 144) (rule 0x1000 true true ∷ rule 0x0011 true false ∷ [])

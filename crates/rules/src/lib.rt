@@ -69,7 +69,7 @@ pub fn transaction_ok(kind: u8, transaction: u32) -> bool
     kind == 147 || 0 < transaction
 }
 
-// Which of the rules: none, the first, the first two.
+// Of the rules: none, the first, the first two.
 const NONE: [bool; 4] = [false, false, false, false];
 
 const FIRST: [bool; 4] = [true, false, false, false];
@@ -162,7 +162,14 @@ fn lacks(r: Rule, tlvs: &[u8]) -> bool
 fn stands(tlvs: &[u8], kind: u16) -> bool
     ensures { λ r. ⌜ r ≡ not (eqb (countOf kind (itemsOf (now (tlvs .entry)))) 0) ⌝ }
 {
-    let next = tlv::first_tlv(items::from_type(tlvs, kind));
+    is_any(items::from_type(tlvs, kind))
+}
+
+// Any TLV stands in the part.
+fn is_any(tlvs: &[u8]) -> bool
+    ensures { λ r. ⌜ r ≡ ltb 0 (length (itemsOf (now (tlvs .entry)))) ⌝ }
+{
+    let next = tlv::first_tlv(tlvs);
     match next {
         First::End => false,
         First::Broken => false,
@@ -200,6 +207,14 @@ fn put_if_missing(buf: &mut [u8], r: Rule, tlvs: &[u8]) -> usize
 }
 
 // ---- what is at fault
+
+// A TLV is at fault.
+pub fn has_fault(rules: Rules, tlvs: &[u8]) -> bool
+    requires { ⌜ Filled rules ⌝ }
+    ensures { λ r. ⌜ r ≡ ltb 0 (length (fromFault (rulesIn rules) [] (itemsOf (now (tlvs .entry))))) ⌝ }
+{
+    is_any(from_fault(rules, tlvs))
+}
 
 // The part from the first TLV at fault on. A rule is `seen` once a TLV of its type has stood.
 pub fn from_fault<'a>(rules: Rules, tlvs: &'a [u8]) -> &'a [u8]

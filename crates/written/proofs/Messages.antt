@@ -1,7 +1,7 @@
 -- What a message that is handed in writes, check by check: nothing, or the answer of its row or type. Assumes nothing.
 use Prim.Native.Nat.{ℕ, _+_, _<_}
 use mathlib.Core.Path.{_≡_, refl, sym, ap, subst, _∙_}
-use mathlib.Core.Bool.{Bool, true, false, cond, not, _||_}
+use mathlib.Core.Bool.{Bool, true, false, cond}
 use mathlib.Core.List.{List, [], _∷_, _++_, append-assoc, append-nil}
 use native.Mathlib.Omega.{arith}
 use lib.ListN.{length, drop, length-append}
@@ -12,7 +12,6 @@ use Rattle.header.specs.declared.Head.{Head}
 use Rattle.header.specs.Header.{sizeOk, usable, headerIn, headIn}
 use Rattle.tlv.specs.Depth.{depthOf, listOk}
 use Rattle.items.specs.Items.{Item, itemsOf}
-use Rattle.fields.specs.Fields.{circuitIds, lengthOk}
 use Rattle.replies.specs.Replies.{replyHeader, amountReply}
 use Rattle.circuits.specs.Circuits.{idAt}
 use Rattle.ports.specs.Ports.{answers, within}

@@ -1,9 +1,6 @@
 use mathlib.Core.List.{List}
 use Prim.Native.Nat.{ℕ}
 use native.Mathlib.Omega.{arith}
-use lib.ListN.{length-drop}
-use Rattle.octets.specs.Writing.{Wrote}
-use Rattle.octets.proofs.Parts.{rest-part}
 use Rattle.items.specs.Items.{itemsOf}
 use Rattle.replies.proofs.Refusals.{length-refusal, refusal-by}
 use Rattle.rules.specs.Rules.{rulesOf}

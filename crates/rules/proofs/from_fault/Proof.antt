@@ -1,10 +1,10 @@
 use mathlib.Core.Path.{_≡_, refl, sym, ap, subst, _∙_}
-use mathlib.Core.List.{List, [], _∷_}
-use mathlib.Core.Bool.{Bool, true, false}
-use Prim.Native.Nat.{ℕ, _+_, _-_, _≤_, _<_}
+use mathlib.Core.List.{List, _∷_}
+use mathlib.Core.Bool.{true, false}
+use Prim.Native.Nat.{_+_, _-_, _≤_}
 use native.Mathlib.Omega.{arith}
 use native.Mathlib.Nat.{add-sub-cancel-left}
-use lib.ListN.{length, take, drop, getD, set, length-set}
+use lib.ListN.{length, take, drop, getD, length-set}
 use lib.Seq.{getD-take, length-take-le}
 use Rattle.octets.specs.Numbers.{padded}
 use Rattle.octets.proofs.Parts.{rest-part}
@@ -12,7 +12,6 @@ use Rattle.items.specs.Items.{Item, itemsOf, item}
 use Rattle.reader.proofs.Steps.{step-end, step-broken, step-tlv, step-fits}
 use Rattle.rules.specs.declared.Rule.{Rule}
 use Rattle.rules.specs.Rules.{allRules, rulesIn}
-use Rattle.rules.specs.Named.{fromFault}
 use Rattle.rules.proofs.Named.{none, rule-is}
 use Rattle.rules.proofs.Walk.{Walked, walk-start, walk-free, walk-good, walk-fault, walk-end}
 use borrow.Author.Needs.{needs}

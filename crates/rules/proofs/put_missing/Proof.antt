@@ -1,13 +1,12 @@
-use mathlib.Core.Path.{_≡_, refl, sym, ap, subst, _∙_}
-use mathlib.Core.List.{List, [], _∷_}
-use Prim.Native.Nat.{ℕ, _≤_, _<_, _-_}
+use mathlib.Core.Path.{_≡_, refl, sym, _∙_}
+use mathlib.Core.List.{[], _∷_}
+use Prim.Native.Nat.{_≤_, _-_}
 use native.Mathlib.Omega.{arith}
-use lib.ListN.{length, take, drop, getD, length-drop}
+use lib.ListN.{length, take, getD, length-drop}
 use Rattle.octets.specs.Writing.{Wrote}
 use Rattle.octets.proofs.Parts.{rest-part}
 use Rattle.octets.proofs.Writing.{over-none}
 use Rattle.items.specs.Items.{itemsOf}
-use Rattle.rules.specs.declared.Rule.{Rule}
 use Rattle.rules.specs.Rules.{allRules}
 use Rattle.rules.specs.Named.{missing, bares}
 use Rattle.rules.proofs.Named.{none, rule-is, bares-turn, bares-most}
