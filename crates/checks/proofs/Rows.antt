@@ -1,5 +1,5 @@
 -- The rows of the table.
---     row-54, ..       the rows about TLVs, each from the tests that lead to it
+--     row-bad, row-port     the rows about TLVs: something is missing or at fault, and nothing is
 --     located-by       the port that is named, from the terms of a call on it
 --     port-unknown, .. the row about the port, from its number and whether it is up
 --     passed-tells     all that a message that passes has shown
@@ -29,6 +29,7 @@ use Rattle.card.specs.Parts.{HasTerms}
 use Rattle.card.proofs.Parts.{ports-are, is-up}
 use Rattle.rules.specs.Rules.{handled, resultOk, transactionOk, rulesOf}
 use Rattle.rules.specs.Named.{missing}
+use Rattle.rules.proofs.Walk.{none-of}
 use Rattle.checks.specs.declared.Verdict.{Verdict}
 use Rattle.checks.specs.declared.Verdict.the-variants.{Refused, Passed}
 use Rattle.checks.specs.Table.{idIn, numberOf, portNamed, Located, located, faults, namedRows, tableOf}
@@ -44,18 +45,29 @@ some-by : (n : ℕ) → ltb 0 n ≡ true → eqb n 0 ≡ false
 some-by n h = ne-eqb n 0 (λ e. omega (arith, ltb-true 0 n h))
 
 module _ (ids : List ℕ) (card : Card) (kind : ℕ) (s : List ℕ) where
-  pub row-54 : ltb 0 (absences kind s) ≡ true → Refused 0x54 ≡ namedRows ids card kind s
+  row-54 : ltb 0 (absences kind s) ≡ true → Refused 0x54 ≡ namedRows ids card kind s
   unfolding namedRows
   row-54 h = rw (some-by (absences kind s) h)
 
-  module _ (whole : ltb 0 (absences kind s) ≡ false) where
-    pub row-55 : ltb 0 (length (faults kind s)) ≡ true → Refused 0x55 ≡ namedRows ids card kind s
-    unfolding namedRows
-    row-55 h = rw (none-by (absences kind s) whole, some-by (length (faults kind s)) h)
+  row-55 : ltb 0 (absences kind s) ≡ false → ltb 0 (length (faults kind s)) ≡ true → Refused 0x55 ≡ namedRows ids card kind s
+  unfolding namedRows
+  row-55 g h = rw (none-by (absences kind s) g, some-by (length (faults kind s)) h)
 
-    pub row-port : ltb 0 (length (faults kind s)) ≡ false → located card (portOf ids (card .head .«port_count») (idIn s)) ≡ namedRows ids card kind s
-    unfolding namedRows
-    row-port h = rw (none-by (absences kind s) whole, none-by (length (faults kind s)) h)
+  -- something is missing or at fault
+  pub row-bad : (missing (rulesOf kind) (itemsOf s) ≡ [] → faults kind s ≡ [] → ⊥) → Refused (cond (ltb 0 (absences kind s)) 0x54 0x55) ≡ namedRows ids card kind s
+  row-bad bad = by (ltb 0 (absences kind s)) refl
+    where
+      faulty : ltb 0 (absences kind s) ≡ false → (f : Bool) → ltb 0 (length (faults kind s)) ≡ f → f ≡ true
+      faulty g true h = refl
+      faulty g false h = absurd (bad (none-of (missing (rulesOf kind) (itemsOf s)) g) (none-of (faults kind s) h))
+
+      by : (b : Bool) → ltb 0 (absences kind s) ≡ b → Refused (cond b 0x54 0x55) ≡ namedRows ids card kind s
+      by true g = row-54 g
+      by false g = row-55 g (faulty g (ltb 0 (length (faults kind s))) refl)
+
+  pub row-port : (missing (rulesOf kind) (itemsOf s) ≡ []) × (faults kind s ≡ []) → located card (portOf ids (card .head .«port_count») (idIn s)) ≡ namedRows ids card kind s
+  unfolding namedRows
+  row-port (g, h) = rw (eq-eqb (absences kind s) 0 (ap length g), eq-eqb (length (faults kind s)) 0 (ap length h))
 
 -- ---- the port by its number
 module _ (ids : List ℕ) (count : ℕ) (s : List ℕ) where

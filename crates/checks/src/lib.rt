@@ -2,11 +2,14 @@
 use fields::TARGET;
 use header::Header;
 use rows::Found;
+use rules::Reach;
 use tlv::First;
 ghost use mathlib.Core.Path.{_≡_};
 ghost use mathlib.Core.List.{List};
 ghost use Prim.Native.Nat.{ℕ, _≤_};
+ghost use mathlib.Core.Bool.{cond};
 ghost use lib.ListN.{length};
+ghost use lib.Dec.{ltb};
 ghost use Rattle.octets.specs.Writing.{Wrote};
 ghost use Rattle.items.specs.Items.{itemsOf};
 ghost use Rattle.header.specs.declared.Header.{Header};
@@ -65,14 +68,21 @@ pub fn check_table(
 fn check_named(named: usize, up: bool, kind: u8, tlvs: &[u8]) -> Verdict
     ensures { λ r. ⌜ ((ids : List ℕ) (card : Card) → Located ids card (now (tlvs .entry)) named up → r ≡ namedRows ids card kind (now (tlvs .entry))) ⌝ }
 {
-    let rules = rules::rules_of(kind);
-    if rules::is_missing(rules, tlvs) {
-        return Verdict::Refused(0x54);
+    let reach = rules::reach_of(kind, tlvs);
+    match reach {
+        Reach::All => check_port(named, up),
+        Reach::UpTo(_) => Verdict::Refused(named_code(kind, tlvs)),
     }
-    if rules::has_fault(rules, tlvs) {
-        return Verdict::Refused(0x55);
+}
+
+// The code where a TLV is missing or at fault.
+fn named_code(kind: u8, tlvs: &[u8]) -> u16
+    ensures { λ r. ⌜ r ≡ cond (ltb 0 (length (missing (rulesOf kind) (itemsOf (now (tlvs .entry)))))) 0x54 0x55 ⌝ }
+{
+    if rules::is_missing(rules::rules_of(kind), tlvs) {
+        return 0x54;
     }
-    check_port(named, up)
+    0x55
 }
 
 fn check_port(named: usize, up: bool) -> Verdict
@@ -120,7 +130,7 @@ fn refuse_fault(reply: &mut [u8], h: Header, tlvs: &[u8]) -> usize
     requires { ⌜ (4608 ≤ length (now reply)) × (length (now tlvs) ≤ 4096) ⌝ }
     ensures { λ r. ⌜ Wrote (refusalOf h 0x55 (copyOf (faults (h .kind) (now (tlvs .entry))))) r (now (reply .entry)) (now (reply .exit)) ⌝ }
 {
-    let t = rules::from_fault(rules::rules_of(h.kind), tlvs);
+    let t = rules::from_fault(h.kind, tlvs);
     let next = tlv::first_tlv(t);
     match next {
         First::End => replies::refuse(reply, h, 0x55),

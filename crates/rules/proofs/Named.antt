@@ -21,8 +21,8 @@ use Rattle.writers.specs.Tlvs.{bareOf}
 use Rattle.writers.proofs.Tlvs.{length-tlv}
 use Rattle.rules.specs.declared.Rule.{Rule}
 use Rattle.rules.specs.declared.Rules.{Rules}
-use Rattle.rules.specs.Rules.{rule, ruleAt, allRules}
-use Rattle.rules.specs.Named.{lacks, missing, bares}
+use Rattle.rules.specs.Rules.{rule, ruleAt, allRules, rulesIn}
+use Rattle.rules.specs.Named.{lacks, missing, bares, Marked}
 
 -- ---- a TLV of type t stands
 module _ (t : ℕ) where
@@ -171,3 +171,14 @@ module _ (r : Rule) (is : List Item) where
       by true true false n h = refl
       by true false c n h = absurd (false≢true (sym h))
       by false b c n h = absurd (false≢true n)
+
+-- ---- a rule that is not needed, or that is marked, lacks nothing
+module _ (rules : Rules) (few : rules .count ≤ 4) (is : List Item) (i : ℕ) (h : i < rules .count) where
+  abbrev the : Rule
+  the = getD (allRules rules) i none
+
+  pub free-lacks : getD (rules .needed) i false ≡ false → lacks the is ≡ false
+  free-lacks e = sym (lacks-free the is (ap (λ (r : Rule). r .needed) (rule-is rules i (omega arith)) ∙ e))
+
+  pub marked-lacks : (seen : List Bool) → Marked (rulesIn rules) seen is → getD seen i false ≡ true → lacks the is ≡ false
+  marked-lacks seen m e = sym (lacks-stands the is (ap not (ap (λ (r : Rule). eqb (countOf (r .kind) is) 0) (sym (getD-take (rules .count) (allRules rules) i none h)) ∙ m i e)))

@@ -1,19 +1,23 @@
 -- The walk to the first TLV at fault.
 --     place-start, place-here, place-on, place-end     a search for the rule of a type, turn by turn
 --     walk-start, walk-free, walk-good, walk-fault, walk-end     its beginning, one turn, and its end
+--     reach-fault, reach-last      how far it goes, by where it ends
+--     reached-all, reached-fits, reached-rest, reached-bad     what is known by it
 -- Assumes nothing.
-use mathlib.Core.Path.{_≡_, refl, sym, ap, _∙_}
-use mathlib.Core.Bool.{Bool, true, false, cond, not, _&&_, _||_}
+use mathlib.Core.Path.{_≡_, refl, sym, ap, subst, _∙_}
+use mathlib.Core.Bool.{Bool, true, false, cond, not, _&&_, _||_, false≢true}
 use mathlib.Core.List.{List, [], _∷_}
 use Prim.Native.Nat.{ℕ, zero, suc, _+_, _≤_, _<_}
 use native.Mathlib.Omega.{arith}
 use lib.ListN.{length, take, drop, getD, set, replicate}
 use lib.Seq.{getD-set-same, getD-set-other}
-use lib.Dec.{eqb}
-use borrow.Author.Tests.{eqb-true, eqb-false, eq-eqb, ne-eqb}
-use Rattle.items.specs.Items.{Item}
+use lib.Dec.{eqb, ltb}
+use borrow.Author.Tests.{ltb-true, ltb-false, eqb-true, eqb-false, eq-eqb, ne-eqb}
+use Rattle.items.specs.Items.{Item, itemsOf, ofType, countOf}
 use Rattle.rules.specs.declared.Rule.{Rule}
-use Rattle.rules.specs.Named.{contentOk, stood, atFault, fromFault, placeOf}
+use Rattle.rules.specs.declared.Reach.{Reach}
+use Rattle.rules.specs.declared.Reach.the-variants.{All, UpTo}
+use Rattle.rules.specs.Named.{missing, contentOk, stood, atFault, fromFault, placeOf, Marked, Reaches}
 use Rattle.rules.proofs.Named.{none, rules-cons, rules-past}
 
 -- ---- one TLV by its rule
@@ -88,6 +92,8 @@ pub record Walked (rs : List Rule) (seen : List Bool) (all rest : List Item) : T
   pub before : List ℕ
   pub same : fromFault rs [] all ≡ fromFault rs before rest
   pub marks : (t : ℕ) → placeOf t rs < length rs → getD seen (placeOf t rs) false ≡ stood t before
+  pub stands : (t : ℕ) → eqb (countOf t rest) 0 ≡ false → eqb (countOf t all) 0 ≡ false
+  pub marked : Marked rs seen all
 
 none-seen : (n k : ℕ) → getD (replicate n false) k false ≡ false
 none-seen zero k = refl
@@ -96,7 +102,14 @@ none-seen (suc n) (suc k) = none-seen n k
 
 pub walk-start : (rs : List Rule) (n : ℕ) (all : List Item) → Walked rs (replicate n false) all all
 unfolding stood
-walk-start rs n all = record { before = []; same = refl; marks = λ t h. none-seen n (placeOf t rs) }
+walk-start rs n all =
+    record {
+      before = [];
+      same = refl;
+      marks = λ t h. none-seen n (placeOf t rs);
+      stands = λ t h. h;
+      marked = λ j h. absurd (false≢true (sym (none-seen n j) ∙ h));
+    }
 
 pub walk-end : {rs : List Rule} {seen : List Bool} {all rest : List Item} → Walked rs seen all rest → rest ≡ [] → rest ≡ fromFault rs [] all
 unfolding fromFault
@@ -111,6 +124,15 @@ module _ (rs : List Rule) (seen : List Bool) (all : List Item) (i : Item) (is : 
   unfolding stood
   stood-other t n = ap (λ (b : Bool). b || stood t (w .before)) (sym (ne-eqb (i .kind) t n))
 
+  count-by : (b : Bool) (l : List (List ℕ)) → eqb (length l) 0 ≡ false → eqb (length (cond b (i .content ∷ l) l)) 0 ≡ false
+  count-by true l h = ne-eqb (length (i .content ∷ l)) 0 (λ e. omega arith)
+  count-by false l h = h
+
+  -- what stands after it stands in what is left
+  stands-on : (t : ℕ) → eqb (countOf t is) 0 ≡ false → eqb (countOf t all) 0 ≡ false
+  unfolding countOf ofType
+  stands-on t h = w .stands t (count-by (eqb (i .kind) t) (ofType t is) h)
+
   -- its type has no rule
   pub walk-free : length rs ≤ placeOf (i .kind) rs → Walked rs seen all is
   walk-free h =
@@ -118,6 +140,8 @@ module _ (rs : List Rule) (seen : List Bool) (all : List Item) (i : Item) (is : 
         before = i .kind ∷ w .before;
         same = goes-on (fault-none (w .before) i rs h);
         marks = λ t k. w .marks t k ∙ stood-other t (λ e. let z = ap (λ (x : ℕ). placeOf x rs) e in omega arith);
+        stands = stands-on;
+        marked = w .marked;
       }
 
   module _ (j : ℕ) (single : Bool) (e : j ≡ placeOf (i .kind) rs) (h : j < length rs) (is-single : getD rs j none .single ≡ single) where
@@ -140,14 +164,14 @@ module _ (rs : List Rule) (seen : List Bool) (all : List Item) (i : Item) (is : 
     unfolding fromFault
     walk-fault t = w .same ∙ ap (λ (b : Bool). cond b (i ∷ is) (fromFault rs (i .kind ∷ w .before) is)) (tested true t)
 
-    marked : j < length seen → (t : ℕ) → placeOf t rs < length rs → (b : Bool) → eqb (i .kind) t ≡ b → getD (set seen j true) (placeOf t rs) false ≡ stood t (i .kind ∷ w .before)
+    marks-on : j < length seen → (t : ℕ) → placeOf t rs < length rs → (b : Bool) → eqb (i .kind) t ≡ b → getD (set seen j true) (placeOf t rs) false ≡ stood t (i .kind ∷ w .before)
     unfolding stood
-    marked l t k true s =
+    marks-on l t k true s =
         ap (λ (x : ℕ). getD (set seen j true) (placeOf x rs) false) (sym (eqb-true (i .kind) t s))
         ∙ ap (λ (x : ℕ). getD (set seen j true) x false) (sym e)
         ∙ getD-set-same seen j true false l
         ∙ ap (λ (b : Bool). b || stood t (w .before)) (sym s)
-    marked l t k false s =
+    marks-on l t k false s =
         getD-set-other seen j (placeOf t rs) true false (λ z. eqb-false (i .kind) t s (other z))
         ∙ w .marks t k
         ∙ ap (λ (b : Bool). b || stood t (w .before)) (sym s)
@@ -155,10 +179,63 @@ module _ (rs : List Rule) (seen : List Bool) (all : List Item) (i : Item) (is : 
         other : placeOf t rs ≡ j → i .kind ≡ t
         other z = sym (placed (i .kind) rs here) ∙ ap (λ (x : ℕ). getD rs x none .kind) (sym e ∙ sym z) ∙ placed t rs k
 
+    -- it stands itself
+    stands-here : eqb (countOf (i .kind) all) 0 ≡ false
+    unfolding countOf ofType
+    stands-here = w .stands (i .kind) (ap (λ (b : Bool). eqb (length (cond b (i .content ∷ ofType (i .kind) is) (ofType (i .kind) is))) 0) (eq-eqb (i .kind) (i .kind) refl) ∙ ne-eqb (length (i .content ∷ ofType (i .kind) is)) 0 (λ e. omega arith))
+
+    marked-by : (k : ℕ) → getD (set seen j true) k false ≡ true → (b : Bool) → eqb k j ≡ b → eqb (countOf (getD rs k none .kind) all) 0 ≡ false
+    marked-by k m true s =
+        ap (λ (x : ℕ). eqb (countOf (getD rs x none .kind) all) 0) (eqb-true k j s ∙ e)
+        ∙ ap (λ (x : ℕ). eqb (countOf x all) 0) (placed (i .kind) rs here)
+        ∙ stands-here
+    marked-by k m false s = w .marked k (sym (getD-set-other seen j k true false (eqb-false k j s)) ∙ m)
+
     pub walk-good : j < length seen → test ≡ false → Walked rs (set seen j true) all is
     walk-good l t =
         record {
           before = i .kind ∷ w .before;
           same = goes-on (tested false t);
-          marks = λ x k. marked l x k (eqb (i .kind) x) refl;
+          marks = λ x k. marks-on l x k (eqb (i .kind) x) refl;
+          stands = stands-on;
+          marked = λ k m. marked-by k m (eqb k j) refl;
         }
+
+-- ---- how far it goes
+pub none-of : {A : Type 0} (l : List A) → ltb 0 (length l) ≡ false → l ≡ []
+none-of [] h = refl
+none-of (x ∷ l) h = absurd (omega (arith, ltb-false 0 (length (x ∷ l)) h))
+
+module _ (rs : List Rule) (s : List ℕ) (at : ℕ) (fit : at ≤ length s) where
+  -- up to a TLV at fault
+  pub reach-fault : {i : Item} {is : List Item} → itemsOf (drop at s) ≡ i ∷ is → fromFault rs [] (itemsOf s) ≡ i ∷ is → Reaches rs s (UpTo at)
+  unfolding Reaches
+  reach-fault e f = (fit, e ∙ sym f, λ m g. omega (arith, ap length f, ap length g))
+
+  -- to the end of them, by what is missing
+  pub reach-last : (b : Bool) → ltb 0 (length (missing rs (itemsOf s))) ≡ b → itemsOf (drop at s) ≡ [] → fromFault rs [] (itemsOf s) ≡ [] → Reaches rs s (cond b (UpTo at) All)
+  unfolding Reaches
+  reach-last true m e f = (fit, e ∙ sym f, λ n g. omega (arith, ltb-true 0 (length (missing rs (itemsOf s))) m, ap length n))
+  reach-last false m e f = (none-of (missing rs (itemsOf s)) m, f)
+
+-- what is known by it
+module _ (rs : List Rule) (s : List ℕ) {r : Reach} (reached : Reaches rs s r) where
+  pub reached-all : r ≡ All → (missing rs (itemsOf s) ≡ []) × (fromFault rs [] (itemsOf s) ≡ [])
+  unfolding Reaches
+  reached-all e = subst (Reaches rs s) e reached
+
+  module _ {at : ℕ} (e : r ≡ UpTo at) where
+    up-to : Reaches rs s (UpTo at)
+    up-to = subst (Reaches rs s) e reached
+
+    pub reached-fits : at ≤ length s
+    unfolding Reaches
+    reached-fits = up-to .0
+
+    pub reached-rest : itemsOf (drop at s) ≡ fromFault rs [] (itemsOf s)
+    unfolding Reaches
+    reached-rest = up-to .1
+
+    pub reached-bad : missing rs (itemsOf s) ≡ [] → fromFault rs [] (itemsOf s) ≡ [] → ⊥
+    unfolding Reaches
+    reached-bad = up-to .2

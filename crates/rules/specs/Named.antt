@@ -1,13 +1,18 @@
 -- What is missing, and what is at fault, among the TLVs that a message's rules name. Assumes nothing: these are
 -- definitions.
-use Prim.Native.Nat.{ℕ, suc}
-use mathlib.Core.Bool.{Bool, false, cond, not, _&&_, _||_}
+use Prim.Native.Nat.{ℕ, suc, _≤_}
+use mathlib.Core.Path.{_≡_}
+use mathlib.Core.Bool.{Bool, true, false, cond, not, _&&_, _||_}
 use mathlib.Core.List.{List, [], _∷_, _++_}
+use lib.ListN.{length, drop, getD}
 use lib.Dec.{eqb}
-use Rattle.items.specs.Items.{Item, countOf}
+use Rattle.items.specs.Items.{Item, itemsOf, countOf}
 use Rattle.fields.specs.Fields.{circuitIds, lengthOk}
 use Rattle.writers.specs.Tlvs.{bareOf}
 use Rattle.rules.specs.declared.Rule.{Rule}
+use Rattle.rules.specs.declared.Reach.{Reach}
+use Rattle.rules.specs.declared.Reach.the-variants.{All, UpTo}
+use Rattle.rules.specs.Rules.{rule}
 
 -- ---- 0x54
 -- the rule needs a TLV, and none stands
@@ -48,8 +53,18 @@ unfoldable pub fromFault : List Rule → List ℕ → List Item → List Item
 fromFault rs before [] = []
 fromFault rs before (i ∷ is) = cond (atFault rs before i) (i ∷ is) (fromFault rs (i .kind ∷ before) is)
 
--- the place of the rule for type t, the first of that type; as many as there are where there is none. How the code finds
--- it, and need not be believed
+-- ---- how the code finds both; need not be believed
+-- the place of the rule for type t, the first of that type; as many as there are where there is none
 unfoldable pub placeOf : ℕ → List Rule → ℕ
 placeOf t [] = 0
 placeOf t (r ∷ rs) = cond (eqb t (r .kind)) 0 (suc (placeOf t rs))
+
+-- a TLV of each marked rule's type stands
+abbrev pub Marked : List Rule → List Bool → List Item → Type 0
+Marked rs seen is = (j : ℕ) → getD seen j false ≡ true → eqb (countOf (getD rs j (rule 0 false false) .kind) is) 0 ≡ false
+
+-- how far the TLVs s are as the rules ask
+unfoldable pub Reaches : List Rule → List ℕ → Reach → Type 0
+Reaches rs s All = (missing rs (itemsOf s) ≡ []) × (fromFault rs [] (itemsOf s) ≡ [])
+Reaches rs s (UpTo at) =
+    (at ≤ length s) × (itemsOf (drop at s) ≡ fromFault rs [] (itemsOf s)) × (missing rs (itemsOf s) ≡ [] → fromFault rs [] (itemsOf s) ≡ [] → ⊥)

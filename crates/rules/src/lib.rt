@@ -6,7 +6,7 @@ use fields::REQUEST;
 use fields::TARGET;
 use tlv::First;
 ghost use mathlib.Core.Path.{_≡_};
-ghost use mathlib.Core.Bool.{not, _&&_, _||_};
+ghost use mathlib.Core.Bool.{cond, not, _&&_, _||_};
 ghost use mathlib.Core.List.{[], _∷_};
 ghost use Prim.Native.Nat.{_≤_, _<_};
 ghost use lib.ListN.{length};
@@ -14,7 +14,8 @@ ghost use lib.Dec.{eqb, ltb};
 ghost use Rattle.octets.specs.Writing.{Wrote};
 ghost use Rattle.items.specs.Items.{itemsOf, countOf};
 ghost use Rattle.rules.specs.Rules.{handled, resultOk, transactionOk, rulesOf, Filled, ruleAt, rulesIn};
-ghost use Rattle.rules.specs.Named.{lacks, missing, bares, contentOk, fromFault, placeOf};
+ghost use Rattle.rules.specs.declared.Reach.the-variants.{All, UpTo};
+ghost use Rattle.rules.specs.Named.{lacks, missing, bares, contentOk, fromFault, placeOf, Marked, Reaches};
 
 // The rule for the TLVs of type `kind` in a message: `needed`, one of them or of type `instead` must stand; `single`, no
 // second one may.
@@ -208,29 +209,35 @@ fn put_if_missing(buf: &mut [u8], r: Rule, tlvs: &[u8]) -> usize
 
 // ---- what is at fault
 
-// A TLV is at fault.
-pub fn has_fault(rules: Rules, tlvs: &[u8]) -> bool
-    requires { ⌜ Filled rules ⌝ }
-    ensures { λ r. ⌜ r ≡ ltb 0 (length (fromFault (rulesIn rules) [] (itemsOf (now (tlvs .entry))))) ⌝ }
-{
-    is_any(from_fault(rules, tlvs))
+// How far a message's TLVs are as its rules ask: all of them, and none is missing; or up to a place, that of the first
+// TLV at fault or, where only one is missing, that where they end.
+pub enum Reach {
+    All,
+    UpTo(usize),
 }
 
-// The part from the first TLV at fault on. A rule is `seen` once a TLV of its type has stood.
-pub fn from_fault<'a>(rules: Rules, tlvs: &'a [u8]) -> &'a [u8]
+pub fn reach_of(kind: u8, tlvs: &[u8]) -> Reach
+    ensures { λ r. ⌜ Reaches (rulesOf kind) (now (tlvs .entry)) r ⌝ }
+{
+    reach_by(rules_of(kind), tlvs)
+}
+
+// A rule is `seen` once a TLV of its type has stood.
+fn reach_by(rules: Rules, tlvs: &[u8]) -> Reach
     requires { ⌜ Filled rules ⌝ }
-    ensures { λ r. ⌜ itemsOf (now r) ≡ fromFault (rulesIn rules) [] (itemsOf (now (tlvs .entry))) ⌝ }
+    ensures { λ r. ⌜ Reaches (rulesIn rules) (now (tlvs .entry)) r ⌝ }
 {
     let n = rules.count;
     let single = rules.single;
+    let needed = rules.needed;
     let mut seen = [false; 4];
     let mut at: usize = 0;
     loop {
         let step = reader::step_at(tlvs, at);
         let next = step.first;
         match next {
-            First::End => return &tlvs[at..],
-            First::Broken => return &tlvs[at..],
+            First::End => break,
+            First::Broken => break,
             First::Tlv {
                 kind: t,
                 len,
@@ -244,12 +251,42 @@ pub fn from_fault<'a>(rules: Rules, tlvs: &'a [u8]) -> &'a [u8]
                 let b = at + 4;
                 let e = b + len;
                 if is_fault(single[j], seen[j], t, &tlvs[b..e]) {
-                    return &tlvs[at..];
+                    return Reach::UpTo(at);
                 }
                 seen[j] = true;
                 at = step.next;
             }
         }
+    }
+    let mut i: usize = 0;
+    while i < n {
+        if needed[i] && !seen[i] {
+            return reach_end(rules, tlvs, at);
+        }
+        i += 1;
+    }
+    Reach::All
+}
+
+// Where none is at fault.
+fn reach_end(rules: Rules, tlvs: &[u8], at: usize) -> Reach
+    requires { ⌜ Filled rules ⌝ }
+    ensures { λ r. ⌜ r ≡ cond (ltb 0 (length (missing (rulesIn rules) (itemsOf (now (tlvs .entry)))))) (UpTo at) All ⌝ }
+{
+    if is_missing(rules, tlvs) {
+        return Reach::UpTo(at);
+    }
+    Reach::All
+}
+
+// The part from the first TLV at fault on.
+pub fn from_fault<'a>(kind: u8, tlvs: &'a [u8]) -> &'a [u8]
+    ensures { λ r. ⌜ itemsOf (now r) ≡ fromFault (rulesOf kind) [] (itemsOf (now (tlvs .entry))) ⌝ }
+{
+    let reach = reach_of(kind, tlvs);
+    match reach {
+        Reach::All => &tlvs[0..0],
+        Reach::UpTo(at) => &tlvs[at..],
     }
 }
 

@@ -1,5 +1,5 @@
-use mathlib.Core.Path.{_≡_, sym, ap, _∙_}
-use mathlib.Core.List.{List, [], _∷_}
+use mathlib.Core.Path.{_≡_, sym, _∙_}
+use mathlib.Core.List.{_∷_}
 use Prim.Native.Nat.{_+_, _≤_}
 use native.Mathlib.Omega.{arith}
 use native.Mathlib.Nat.{add-sub-cancel-left}
@@ -8,8 +8,6 @@ use Rattle.octets.specs.Numbers.{padded}
 use Rattle.tlv.proofs.Firsts.{tlv-fits}
 use Rattle.items.specs.Items.{item, itemsOf}
 use Rattle.items.proofs.Items.{items-end, items-broken, items-tlv}
-use Rattle.rules.specs.declared.Rule.{Rule}
-use Rattle.rules.specs.Named.{fromFault}
 use Rattle.checks.specs.Table.{faults, copyOf}
 use Rattle.checks.proofs.Named.{fault-short}
 use borrow.Author.Needs.{needs}
@@ -17,15 +15,15 @@ use Rattle.checks.proofs.refuse_fault.Statement.{statement}
 use Rattle.checks.proofs.refuse_fault.Tie as tie
 
 -- past the walk: it is that of the message's type
-from : (c : tie.After-from-fault) → itemsOf (c .from-fault .result .now) ≡ faults (c .before .before .before .before .args .h .kind) (c .before .before .before .before .args .tlvs .now)
-from c = c .from-fault .ensures ∙ ap (λ (rs : List Rule). fromFault rs [] (itemsOf (c .before .before .before .before .args .tlvs .now))) (c .before .rules-of .ensures .1)
+from : (c : tie.After-from-fault) → itemsOf (c .from-fault .result .now) ≡ faults (c .before .before .before .args .h .kind) (c .before .before .before .args .tlvs .now)
+from c = c .from-fault .ensures
 
 -- past the match: the TLV lies in the part
 fit : (c : tie.After-known-told) → (c .before .next .given .0 .1 .1 .0 ≡ 4 + padded (c .before .next .given .0 .1 .0)) × (c .before .next .given .0 .1 .1 .0 ≤ length (c .before .before .before .before .from-fault .result .now))
 fit c = tlv-fits _ (c .before .before .before .first-tlv .ensures) (c .before .next .given .1)
 
 -- and is the first one at fault
-first : (c : tie.After-known-told) → faults (c .before .before .before .before .before .before .before .before .args .h .kind) (c .before .before .before .before .before .before .before .before .args .tlvs .now) ≡ item (c .before .next .given .0 .0) (take (c .before .next .given .0 .1 .0) (drop 4 (c .before .before .before .before .from-fault .result .now))) ∷ itemsOf (drop (c .before .next .given .0 .1 .1 .0) (c .before .before .before .before .from-fault .result .now))
+first : (c : tie.After-known-told) → faults (c .before .before .before .before .before .before .before .args .h .kind) (c .before .before .before .before .before .before .before .args .tlvs .now) ≡ item (c .before .next .given .0 .0) (take (c .before .next .given .0 .1 .0) (drop 4 (c .before .before .before .before .from-fault .result .now))) ∷ itemsOf (drop (c .before .next .given .0 .1 .1 .0) (c .before .before .before .before .from-fault .result .now))
 first c = sym (from (c .before .before .before .before)) ∙ items-tlv _ (c .before .before .before .first-tlv .ensures) (c .before .next .given .1)
 
 -- src/lib.rt:148:21
@@ -38,7 +36,7 @@ part-refuse-tlv-end c = omega (arith, fit (c .before))
 
 -- src/lib.rt:149:13
 refuse-tlv-requires : tie.Need-refuse-tlv-requires
-refuse-tlv-requires c κs = (omega (arith, c .before .before .before .before .before .before .before .before .before .before .pre), rw add-sub-cancel-left (omega (arith, fault-short (c .before .before .before .before .before .before .before .before .before .before .args .h .kind) (c .before .before .before .before .before .before .before .before .before .before .args .tlvs .now) (first (c .before .before)), c .before .before .before .before .before .before .before .before .before .before .pre)))
+refuse-tlv-requires c κs = (omega (arith, c .before .before .before .before .before .before .before .before .before .pre), rw add-sub-cancel-left (omega (arith, fault-short (c .before .before .before .before .before .before .before .before .before .args .h .kind) (c .before .before .before .before .before .before .before .before .before .args .tlvs .now) (first (c .before .before)), c .before .before .before .before .before .before .before .before .before .pre)))
 
 -- src/lib.rt:138:1
 returns : tie.Need-returns
@@ -59,7 +57,6 @@ pub refuse-fault-spec : {M : Type 1} → statement M
 refuse-fault-spec =
     tie.close
     (tie.spec
-    (λ c κs. search needs)
     (λ c κs. search needs)
     (λ c κs. search needs)
     (λ c. search needs)
