@@ -1,20 +1,25 @@
 -- The TLVs that a message's rules name, by their lengths.
 --     all-words                the bare headers of what is missing: two at most
 --     fault-short, id-fits     the first TLV at fault, and the circuit id, are no longer than the message
+--     enclosed-words           what a refusal encloses
 -- Assumes nothing.
-use mathlib.Core.Path.{_≡_}
+use mathlib.Core.Path.{_≡_, refl}
+use mathlib.Core.Bool.{Bool, true, false, cond, _||_}
 use mathlib.Core.List.{List, [], _∷_}
 use Prim.Native.Nat.{ℕ, _*_, _%_, _≤_}
 use native.Mathlib.Omega.{arith}
 use lib.ListN.{length}
+use lib.Dec.{eqb}
 use Rattle.items.specs.Items.{Item, itemsOf, firstOf}
 use Rattle.items.proofs.Items.{Fit, items-fit}
 use Rattle.items.proofs.Types.{first-fits}
+use Rattle.writers.specs.Tlvs.{targetOf}
+use Rattle.writers.proofs.Tlvs.{length-tlv, length-target}
 use Rattle.rules.specs.Rules.{rulesOf}
 use Rattle.rules.specs.Named.{missing, bares}
 use Rattle.rules.proofs.Named.{missing-few, length-bares}
 use Rattle.rules.proofs.Faults.{fault-tail, rules-few}
-use Rattle.checks.specs.Table.{idIn, faults}
+use Rattle.checks.specs.Table.{idIn, faults, copyOf, enclosedOf}
 
 -- each type takes four octets
 pub record Words (n : ℕ) (l : List ℕ) : Type 0 where
@@ -37,3 +42,30 @@ id-fits s =
 pub fault-short : (kind : ℕ) (s : List ℕ) {i : Item} {is : List Item} → faults kind s ≡ i ∷ is → length (i .content) ≤ length s
 fault-short kind s e =
     omega (arith, (rw e at (fault-tail (rulesOf kind) (Fit (length s)) (λ i is h. h .1) [] (itemsOf s) (items-fit s))) .0)
+
+-- ---- what a refusal encloses
+module _ (kind : ℕ) (s : List ℕ) where
+  copy-words : length s ≤ 4096 → (is : List Item) → faults kind s ≡ is → Words 1027 (copyOf is)
+  unfolding copyOf
+  copy-words h [] e = record { most = omega arith; whole = refl }
+  copy-words h (i ∷ is) e =
+      let l = length-tlv (i .kind) (i .content) in
+      record { most = omega (arith, l, fault-short kind s e); whole = omega (arith, l) }
+
+  pub enclosed-words : length s ≤ 4096 → (code : ℕ) → Words 1027 (enclosedOf kind s code)
+  unfolding enclosedOf
+  enclosed-words h code = by (eqb code 0x54) (eqb code 0x55) (eqb code 0x500 || eqb code 0x6)
+    where
+      by : (a b c : Bool) → Words 1027 (cond a (bares (missing (rulesOf kind) (itemsOf s))) (cond b (copyOf (faults kind s)) (cond c (targetOf (idIn s)) [])))
+      by true b c = let w = all-words kind (itemsOf s) in record { most = omega (arith, w .most); whole = w .whole }
+      by false true c = copy-words h (faults kind s) refl
+      by false false true = let l = length-target (idIn s) in record { most = omega (arith, l, id-fits s); whole = omega (arith, l) }
+      by false false false = record { most = omega arith; whole = refl }
+
+  pub enclosed-500 : {code : ℕ} → code ≡ 0x500 → enclosedOf kind s code ≡ targetOf (idIn s)
+  unfolding enclosedOf
+  enclosed-500 e = rw e
+
+  pub enclosed-6 : {code : ℕ} → code ≡ 0x6 → enclosedOf kind s code ≡ targetOf (idIn s)
+  unfolding enclosedOf
+  enclosed-6 e = rw e

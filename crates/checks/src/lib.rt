@@ -14,11 +14,10 @@ ghost use Rattle.octets.specs.Writing.{Wrote};
 ghost use Rattle.items.specs.Items.{itemsOf};
 ghost use Rattle.header.specs.declared.Header.{Header};
 ghost use Rattle.rules.specs.Rules.{rulesOf};
-ghost use Rattle.rules.specs.Named.{missing, bares};
+ghost use Rattle.rules.specs.Named.{missing};
 ghost use Rattle.circuits.specs.Circuits.{portOf};
-ghost use Rattle.replies.specs.Replies.{refusalOf};
 ghost use Rattle.card.specs.Cards.{Card};
-ghost use Rattle.checks.specs.Table.{idIn, portNamed, HasFields, Located, located, faults, namedRows, tableOf, copyOf, refusedOf};
+ghost use Rattle.checks.specs.Table.{idIn, portNamed, HasFields, Located, located, faults, namedRows, tableOf, copyOf, enclosedOf, refusedOf};
 
 pub enum Verdict {
     // The result code of the row that refuses the message.
@@ -111,42 +110,45 @@ pub fn put_refused(reply: &mut [u8], h: Header, tlvs: &[u8], code: u16) -> usize
     requires { ⌜ (4608 ≤ length (now reply)) × (length (now tlvs) ≤ 4096) ⌝ }
     ensures { λ r. ⌜ Wrote (refusedOf h (now (tlvs .entry)) code) r (now (reply .entry)) (now (reply .exit)) ⌝ }
 {
+    let n = put_enclosed(&mut reply[24..], h.kind, tlvs, code);
+    replies::put_refusal(reply, h, code, n);
+    24 + n
+}
+
+// What its Status-Info encloses.
+fn put_enclosed(buf: &mut [u8], kind: u8, tlvs: &[u8], code: u16) -> usize
+    requires { ⌜ (4584 ≤ length (now buf)) × (length (now tlvs) ≤ 4096) ⌝ }
+    ensures { λ r. ⌜ Wrote (enclosedOf kind (now (tlvs .entry)) code) r (now (buf .entry)) (now (buf .exit)) ⌝ }
+{
     if code == 0x54 {
-        return refuse_missing(reply, h, tlvs);
+        return rules::put_missing(buf, rules::rules_of(kind), tlvs);
     }
     if code == 0x55 {
-        return refuse_fault(reply, h, tlvs);
+        return put_fault(buf, kind, tlvs);
     }
-    if code == 0x500 {
-        return replies::refuse_target(reply, h, code, id_in(tlvs));
+    if code == 0x500 || code == 0x6 {
+        return writers::put_target(buf, id_in(tlvs));
     }
-    if code == 0x6 {
-        return replies::refuse_target(reply, h, code, id_in(tlvs));
-    }
-    replies::refuse(reply, h, code)
+    0
 }
 
-fn refuse_fault(reply: &mut [u8], h: Header, tlvs: &[u8]) -> usize
-    requires { ⌜ (4608 ≤ length (now reply)) × (length (now tlvs) ≤ 4096) ⌝ }
-    ensures { λ r. ⌜ Wrote (refusalOf h 0x55 (copyOf (faults (h .kind) (now (tlvs .entry))))) r (now (reply .entry)) (now (reply .exit)) ⌝ }
+// A copy of the first TLV at fault.
+fn put_fault(buf: &mut [u8], kind: u8, tlvs: &[u8]) -> usize
+    requires { ⌜ (4584 ≤ length (now buf)) × (length (now tlvs) ≤ 4096) ⌝ }
+    ensures { λ r. ⌜ Wrote (copyOf (faults kind (now (tlvs .entry)))) r (now (buf .entry)) (now (buf .exit)) ⌝ }
 {
-    let t = rules::from_fault(h.kind, tlvs);
+    let t = rules::from_fault(kind, tlvs);
     let next = tlv::first_tlv(t);
     match next {
-        First::End => replies::refuse(reply, h, 0x55),
-        First::Broken => replies::refuse(reply, h, 0x55),
-        First::Tlv { kind, len, size: _ } => {
+        First::End => 0,
+        First::Broken => 0,
+        First::Tlv {
+            kind: k,
+            len,
+            size: _,
+        } => {
             let e = 4 + len;
-            replies::refuse_tlv(reply, h, 0x55, kind, &t[4..e])
+            writers::put_tlv(buf, k, &t[4..e])
         }
     }
-}
-
-fn refuse_missing(reply: &mut [u8], h: Header, tlvs: &[u8]) -> usize
-    requires { ⌜ 4608 ≤ length (now reply) ⌝ }
-    ensures { λ r. ⌜ Wrote (refusalOf h 0x54 (bares (missing (rulesOf (h .kind)) (itemsOf (now (tlvs .entry)))))) r (now (reply .entry)) (now (reply .exit)) ⌝ }
-{
-    let n = rules::put_missing(&mut reply[24..], rules::rules_of(h.kind), tlvs);
-    replies::put_refusal(reply, h, 0x54, n);
-    24 + n
 }

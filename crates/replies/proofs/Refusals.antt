@@ -1,6 +1,6 @@
 -- A refusal whose enclosed TLVs are written first and its head last; and how many octets the replies take. Assumes nothing.
-use mathlib.Core.Path.{_≡_, refl, sym, ap, _∙_}
-use mathlib.Core.List.{List, [], _++_, append-assoc, append-nil}
+use mathlib.Core.Path.{_≡_, sym, ap, _∙_}
+use mathlib.Core.List.{List, _++_, append-assoc}
 use Prim.Native.Nat.{ℕ, _+_, _-_, _%_, _≤_}
 use native.Mathlib.Omega.{arith}
 use lib.ListN.{length, take, drop, length-append}
@@ -45,9 +45,6 @@ module _ (h : Header) (code : ℕ) (inner : List ℕ) (m : length inner % 4 ≡ 
   refusal-by l n en hl ey ez =
       lent-before (refusalHead h code n) inner l 24 (length-refusal-head h code n) hl ey ez
       ∙ ap (λ (w : List ℕ). over w l) (ap (λ (k : ℕ). refusalHead h code k ++ inner) en ∙ refusal-parts)
-
-pub refusal-alone : (h : Header) (code : ℕ) → refusalHead h code 0 ≡ refusalOf h code []
-refusal-alone h code = sym (append-nil (refusalHead h code 0)) ∙ refusal-parts h code [] refl
 
 pub length-target-amount : (id : List ℕ) (amount : ℕ) → length (targetOf id ++ allocationOf amount) ≡ 16 + padded (length id)
 length-target-amount id amount = simp (length-append, length-target, length-allocation) (omega arith)

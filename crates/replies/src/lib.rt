@@ -1,12 +1,12 @@
 // Whole replies, written into a lent buffer: what a header counts is written first, in its place after the header.
 use header::Header;
 ghost use mathlib.Core.Path.{_≡_};
-ghost use mathlib.Core.List.{[], _++_};
+ghost use mathlib.Core.List.{_++_};
 ghost use Prim.Native.Nat.{_+_, _≤_, _<_};
 ghost use lib.ListN.{length};
 ghost use Rattle.octets.specs.Writing.{over, Wrote};
-ghost use Rattle.writers.specs.Tlvs.{tlvOf, targetOf, allocationOf};
-ghost use Rattle.replies.specs.Replies.{replyHeader, beginHeader, refusalOf, successOf, amountReply};
+ghost use Rattle.writers.specs.Tlvs.{targetOf, allocationOf};
+ghost use Rattle.replies.specs.Replies.{replyHeader, beginHeader, successOf, amountReply};
 ghost use Rattle.replies.specs.Heads.{refusalHead};
 
 pub fn reply_header(h: Header, kind: u8, result: u8, code: u16) -> Header
@@ -41,34 +41,7 @@ pub fn put_success(reply: &mut [u8], h: Header) -> usize
     16
 }
 
-// A refusal that encloses nothing; a copy of one TLV; a Target with the circuit id alone.
-pub fn refuse(reply: &mut [u8], h: Header, code: u16) -> usize
-    requires { ⌜ 24 ≤ length (now reply) ⌝ }
-    ensures { λ r. ⌜ Wrote (refusalOf h code []) r (now (reply .entry)) (now (reply .exit)) ⌝ }
-{
-    put_refusal(reply, h, code, 0);
-    24
-}
-
-pub fn refuse_tlv(reply: &mut [u8], h: Header, code: u16, kind: u16, content: &[u8]) -> usize
-    requires { ⌜ (4608 ≤ length (now reply)) × (length (now content) ≤ 4096) ⌝ }
-    ensures { λ r. ⌜ Wrote (refusalOf h code (tlvOf kind (now (content .entry)))) r (now (reply .entry)) (now (reply .exit)) ⌝ }
-{
-    let n = writers::put_tlv(&mut reply[24..], kind, content);
-    put_refusal(reply, h, code, n);
-    24 + n
-}
-
-pub fn refuse_target(reply: &mut [u8], h: Header, code: u16, id: &[u8]) -> usize
-    requires { ⌜ (4608 ≤ length (now reply)) × (length (now id) ≤ 4096) ⌝ }
-    ensures { λ r. ⌜ Wrote (refusalOf h code (targetOf (now (id .entry)))) r (now (reply .entry)) (now (reply .exit)) ⌝ }
-{
-    let n = writers::put_target(&mut reply[24..], id);
-    put_refusal(reply, h, code, n);
-    24 + n
-}
-
-// The header and the head of a Status-Info before n octets of TLVs, which stand after them already.
+// A refusal: the header and the head of a Status-Info before n octets of enclosed TLVs, which stand after them already.
 pub fn put_refusal(reply: &mut [u8], h: Header, code: u16, n: usize)
     requires { ⌜ (24 ≤ length (now reply)) × (n < 65516) ⌝ }
     ensures { λ _. ⌜ now (reply .exit) ≡ over (refusalHead h code n) (now (reply .entry)) ⌝ }

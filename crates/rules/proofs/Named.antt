@@ -2,6 +2,7 @@
 --     stands-by                    a TLV of a type stands, as the code tells it
 --     missing-on, missing-here, missing-end     a search for the first rule that lacks its TLV, turn by turn
 --     bares-turn, bares-most       bare headers written one directly after the other
+--     free-lacks, marked-lacks     a rule that is not needed, or of whose type a TLV was seen
 -- Assumes nothing.
 use mathlib.Core.Path.{_≡_, refl, sym, ap, _∙_}
 use mathlib.Core.Bool.{Bool, true, false, cond, not, _&&_, false≢true}
@@ -22,7 +23,7 @@ use Rattle.writers.proofs.Tlvs.{length-tlv}
 use Rattle.rules.specs.declared.Rule.{Rule}
 use Rattle.rules.specs.declared.Rules.{Rules}
 use Rattle.rules.specs.Rules.{rule, ruleAt, allRules, rulesIn}
-use Rattle.rules.specs.Named.{lacks, missing, bares, Marked}
+use Rattle.rules.specs.Named.{lacks, missing, bares}
 
 -- ---- a TLV of type t stands
 module _ (t : ℕ) where
@@ -173,6 +174,11 @@ module _ (r : Rule) (is : List Item) where
       by false b c n h = absurd (false≢true n)
 
 -- ---- a rule that is not needed, or that is marked, lacks nothing
+
+-- a TLV of each marked rule's type stands
+abbrev pub Marked : List Rule → List Bool → List Item → Type 0
+Marked rs seen is = (j : ℕ) → getD seen j false ≡ true → eqb (countOf (getD rs j none .kind) is) 0 ≡ false
+
 module _ (rules : Rules) (few : rules .count ≤ 4) (is : List Item) (i : ℕ) (h : i < rules .count) where
   abbrev the : Rule
   the = getD (allRules rules) i none

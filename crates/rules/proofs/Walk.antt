@@ -17,8 +17,8 @@ use Rattle.items.specs.Items.{Item, itemsOf, ofType, countOf}
 use Rattle.rules.specs.declared.Rule.{Rule}
 use Rattle.rules.specs.declared.Reach.{Reach}
 use Rattle.rules.specs.declared.Reach.the-variants.{All, UpTo}
-use Rattle.rules.specs.Named.{missing, contentOk, stood, atFault, fromFault, placeOf, Marked, Reaches}
-use Rattle.rules.proofs.Named.{none, rules-cons, rules-past}
+use Rattle.rules.specs.Named.{missing, contentOk, stood, atFault, fromFault, placeOf, Reaches}
+use Rattle.rules.proofs.Named.{none, rules-cons, rules-past, Marked}
 
 -- ---- one TLV by its rule
 pub single-left : (single again ok : Bool) → single ≡ false → not ok ≡ ((single && again) || not ok)

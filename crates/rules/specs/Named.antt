@@ -2,9 +2,9 @@
 -- definitions.
 use Prim.Native.Nat.{ℕ, suc, _≤_}
 use mathlib.Core.Path.{_≡_}
-use mathlib.Core.Bool.{Bool, true, false, cond, not, _&&_, _||_}
+use mathlib.Core.Bool.{Bool, false, cond, not, _&&_, _||_}
 use mathlib.Core.List.{List, [], _∷_, _++_}
-use lib.ListN.{length, drop, getD}
+use lib.ListN.{length, drop}
 use lib.Dec.{eqb}
 use Rattle.items.specs.Items.{Item, itemsOf, countOf}
 use Rattle.fields.specs.Fields.{circuitIds, lengthOk}
@@ -12,7 +12,6 @@ use Rattle.writers.specs.Tlvs.{bareOf}
 use Rattle.rules.specs.declared.Rule.{Rule}
 use Rattle.rules.specs.declared.Reach.{Reach}
 use Rattle.rules.specs.declared.Reach.the-variants.{All, UpTo}
-use Rattle.rules.specs.Rules.{rule}
 
 -- ---- 0x54
 -- the rule needs a TLV, and none stands
@@ -58,10 +57,6 @@ fromFault rs before (i ∷ is) = cond (atFault rs before i) (i ∷ is) (fromFaul
 unfoldable pub placeOf : ℕ → List Rule → ℕ
 placeOf t [] = 0
 placeOf t (r ∷ rs) = cond (eqb t (r .kind)) 0 (suc (placeOf t rs))
-
--- a TLV of each marked rule's type stands
-abbrev pub Marked : List Rule → List Bool → List Item → Type 0
-Marked rs seen is = (j : ℕ) → getD seen j false ≡ true → eqb (countOf (getD rs j (rule 0 false false) .kind) is) 0 ≡ false
 
 -- how far the TLVs s are as the rules ask
 unfoldable pub Reaches : List Rule → List ℕ → Reach → Type 0

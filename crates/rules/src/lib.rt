@@ -15,7 +15,7 @@ ghost use Rattle.octets.specs.Writing.{Wrote};
 ghost use Rattle.items.specs.Items.{itemsOf, countOf};
 ghost use Rattle.rules.specs.Rules.{handled, resultOk, transactionOk, rulesOf, Filled, ruleAt, rulesIn};
 ghost use Rattle.rules.specs.declared.Reach.the-variants.{All, UpTo};
-ghost use Rattle.rules.specs.Named.{lacks, missing, bares, contentOk, fromFault, placeOf, Marked, Reaches};
+ghost use Rattle.rules.specs.Named.{lacks, missing, bares, contentOk, fromFault, placeOf, Reaches};
 
 // The rule for the TLVs of type `kind` in a message: `needed`, one of them or of type `instead` must stand; `single`, no
 // second one may.

@@ -3,7 +3,6 @@ use mathlib.Core.List.{[]}
 use Rattle.octets.proofs.Parts.{rest-part}
 use Rattle.tlv.proofs.Firsts.{first-end}
 use Rattle.items.proofs.Items.{items-end}
-use Rattle.items.specs.Items.{itemsOf}
 use Rattle.rules.specs.Rules.{rulesOf}
 use Rattle.rules.proofs.Walk.{reached-all, reached-fits, reached-rest}
 use borrow.Author.Needs.{needs}

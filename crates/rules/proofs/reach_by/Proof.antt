@@ -7,14 +7,13 @@ use Rattle.rules.proofs.Walk.{reach-fault, reach-last}
 use Rattle.rules.specs.Named.{Reaches}
 use mathlib.Core.Path.{_≡_, refl, sym, ap, subst, _∙_}
 use mathlib.Core.List.{List, [], _∷_}
-use mathlib.Core.Bool.{true, false}
+use mathlib.Core.Bool.{false}
 use Prim.Native.Nat.{_+_, _-_, _≤_}
 use native.Mathlib.Omega.{arith}
 use native.Mathlib.Nat.{add-sub-cancel-left}
 use lib.ListN.{length, take, drop, getD, length-set}
 use lib.Seq.{getD-take, length-take-le}
 use Rattle.octets.specs.Numbers.{padded}
-use Rattle.octets.proofs.Parts.{rest-part}
 use Rattle.items.specs.Items.{Item, itemsOf, item}
 use Rattle.reader.proofs.Steps.{step-end, step-broken, step-tlv, step-fits}
 use Rattle.rules.specs.declared.Rule.{Rule}

@@ -1,4 +1,4 @@
-use mathlib.Core.Path.{ap, subst}
+use mathlib.Core.Path.{subst}
 use mathlib.Core.List.{List}
 use Rattle.rules.specs.declared.Rule.{Rule}
 use Rattle.rules.specs.Named.{Reaches}
