@@ -20,7 +20,7 @@ use Rattle.items.specs.Items.{Item, itemsOf, ofType, countOf}
 use Rattle.circuits.specs.Circuits.{portOf}
 use Rattle.card.specs.Cards.{Card}
 use Rattle.checks.specs.declared.Verdict.the-variants.{Refused, Passed}
-use Rattle.rules.specs.Rules.{handled, resultOk, transactionOk, rule, rulesOf}
+use Rattle.rules.specs.Rules.{handled, resultOk, transactionOk, rule, rulesOf, isAmong, rulesAmong}
 use Rattle.rules.specs.Named.{lacks, missing, stood, atFault}
 use Rattle.rules.proofs.Faults.{no-fault, commands-free}
 use Rattle.checks.specs.Table.{idIn, located, faults, namedRows, tableOf}
@@ -112,19 +112,19 @@ module _ (t : Tables) (card : Card) (l : Ledger) (a : Agree t card l) (m : List 
   result-by C x y = ⊎-elim (λ (e : resultIn m ≡ 1). subst C (sym e) x) (λ (e : resultIn m ≡ 2). subst C (sym e) y) (r .result)
 
   none-missing : length (missing (rulesOf 144) (itemsOf (drop 16 m))) ≡ 0
-  unfolding missing lacks rulesOf countOf
+  unfolding missing lacks rulesOf rulesAmong countOf
   none-missing =
       let is : List Item = itemsOf (drop 16 m) in
       let n : length (ofType 0x0011 is) ≡ length before + suc (length after) = ap length (r .commands) ∙ length-append before (r .here ∷ after) in
       rw (ne-eqb (length (ofType 0x1000 is)) 0 (some-target t card l a m 144 p (r .sound)), ne-eqb (length (ofType 0x0011 is)) 0 (λ e. omega arith))
 
   none-faulty : faults 144 (drop 16 m) ≡ []
-  unfolding rulesOf tlvsIn stood
+  unfolding rulesOf rulesAmong tlvsIn stood
   none-faulty =
       no-fault (rule 0x0011 true false ∷ []) commands-free [] (itemsOf (drop 16 m)) refl (r .sound .target) (r .sound .circuit)
 
   pub reached : (space : ℕ) → 4608 ≤ space → receivedOf (t .ids) (t .channels) card m space ≡ controlled (t .ids) (t .channels) card (headerIn m) p (drop 16 m)
-  unfolding handled resultOk isAnswer byType kindIn
+  unfolding handled isAmong resultOk isAnswer byType kindIn
   reached space k =
       sound-comes t card l a m 144 p (r .sound) reached-up none-missing none-faulty refl (result-by (λ n. (eqb n 1 || eqb n 2) ≡ true) refl refl)
       (result-by (λ n. depthOf n ≡ 3) refl refl) (λ e. omega arith) (result-by (λ n. isAnswer n ≡ false) refl refl)
@@ -135,15 +135,15 @@ module _ (t : Tables) (card : Card) (l : Ledger) (a : Agree t card l) (m : List 
 module _ (t : Tables) (card : Card) (l : Ledger) (a : Agree t card l) (m : List ℕ) (p : ℕ) (r : Sound t m 149 p) (two : resultIn m ≡ 2)
     (up : l p .isUp ≡ true) where
   none-missing-149 : length (missing (rulesOf 149) (itemsOf (drop 16 m))) ≡ 0
-  unfolding missing lacks rulesOf
+  unfolding missing lacks rulesOf rulesAmong
   none-missing-149 = rw (ne-eqb (countOf 0x1000 (itemsOf (drop 16 m))) 0 (some-target t card l a m 149 p r))
 
   none-faulty-149 : faults 149 (drop 16 m) ≡ []
-  unfolding rulesOf tlvsIn stood atFault
+  unfolding rulesOf rulesAmong tlvsIn stood atFault
   none-faulty-149 = no-fault [] (λ before i n. refl) [] (itemsOf (drop 16 m)) refl (r .target) (r .circuit)
 
   pub flows-queried : (space : ℕ) → 4608 ≤ space → receivedOf (t .ids) (t .channels) card m space ≡ flowQuery (t .ids) (t .channels) card (headerIn m) p
-  unfolding handled resultOk isAnswer byType kindIn
+  unfolding handled isAmong resultOk isAnswer byType kindIn
   flows-queried space k =
       let by : (C : ℕ → Type 0) → C 2 → C (resultIn m) = λ C x. subst C (sym two) x in
       let other : (n : ℕ) → (149 ≡ n → ⊥) → eqb (headerIn m .kind) n ≡ false = λ n d. ne-eqb (headerIn m .kind) n (λ e. d (sym (r .is-kind) ∙ e)) in

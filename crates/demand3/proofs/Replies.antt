@@ -18,7 +18,7 @@ use Rattle.rows.specs.declared.Found.the-variants.{At}
 use Rattle.circuits.specs.Circuits.{idAt, portOf}
 use Rattle.tables.proofs.Tables.{own-port}
 use Rattle.rules.specs.declared.Rule.{Rule}
-use Rattle.rules.specs.Rules.{rulesOf}
+use Rattle.rules.specs.Rules.{rulesOf, rulesAmong}
 use Rattle.rules.specs.Named.{lacks, missing, bares}
 use Rattle.rules.proofs.Faults.{EachRule, OfFirst, fault-named}
 use Rattle.checks.specs.Table.{idIn, faults, copyOf, enclosedOf, refusedOf}
@@ -161,7 +161,7 @@ missing-unnumbered (r ∷ rs) is h = go (lacks r is) (missing rs is) (missing-un
 
 -- the rules of a 144 name no Sequence-Number
 ordered-unlike : EachRule Unlike (rulesOf 144)
-unfolding rulesOf
+unfolding rulesOf rulesAmong
 ordered-unlike = (λ k. omega arith, (λ k. omega arith, tt))
 
 enclosed-unnumbered : (s : List ℕ) (code : ℕ) → Unnumbered (enclosedOf 144 s code)

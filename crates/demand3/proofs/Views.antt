@@ -23,7 +23,7 @@ use Rattle.card.specs.Cards.{Card, portAt}
 use Rattle.card.specs.Outcome.{Outcome, keeps, writes}
 use Rattle.checks.specs.declared.Verdict.{Verdict}
 use Rattle.checks.specs.declared.Verdict.the-variants.{Refused, Passed}
-use Rattle.rules.specs.Rules.{handled}
+use Rattle.rules.specs.Rules.{handled, isAmong}
 use Rattle.checks.specs.Table.{tableOf, refusedOf}
 use Rattle.checks.proofs.Rows.{TablePassed, passed-tells}
 use Rattle.control.specs.Control.{controlled}
@@ -44,10 +44,10 @@ Other a b = a ≡ b → ⊥
 
 -- of the types that are handled the queries are left, 148 and 149
 query-kind : (k : ℕ) → handled k ≡ true → Other k 144 → Other k 146 → Other k 147 → 147 < k
-unfolding handled
+unfolding handled isAmong
 query-kind k h a b c = go (eqb k 148) (eqb k 149) refl refl (rw (ne-eqb k 144 a, ne-eqb k 146 b, ne-eqb k 147 c) at h)
   where
-    go : (d e : Bool) → eqb k 148 ≡ d → eqb k 149 ≡ e → (d || e) ≡ true → 147 < k
+    go : (d e : Bool) → eqb k 148 ≡ d → eqb k 149 ≡ e → (d || (e || false)) ≡ true → 147 < k
     go true e p q r = omega (arith, eqb-true k 148 p)
     go false true p q r = omega (arith, eqb-true k 149 q)
     go false false p q r = absurd (false≢true r)

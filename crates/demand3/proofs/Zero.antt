@@ -11,7 +11,7 @@ use Rattle.writers.specs.Tlvs.{statusOf}
 use Rattle.replies.specs.Replies.{replyHeader, refusalOf}
 use Rattle.card.specs.Cards.{Card}
 use Rattle.card.specs.Outcome.{Outcome, writes}
-use Rattle.rules.specs.Rules.{handled, resultOk, transactionOk}
+use Rattle.rules.specs.Rules.{handled, resultOk, transactionOk, isAmong}
 use Rattle.checks.specs.Table.{tableOf, enclosedOf}
 use Rattle.messages.specs.Messages.{isAnswer, isNotice, requested, byResult, byHead, receivedOf}
 use Rattle.demand3.specs.Calls.{Tables, outcomeOf}
@@ -33,7 +33,7 @@ module _ (t : Tables) (card : Card) (m : List ℕ) (size : sizeOk m ≡ true) (h
         rw (le-ltb space 4608 k, size, header, is-kind, is-result, other, request, carried, known, ok, zero)
 
   pub zero-refused : RightResult m → outcomeOf t card (message m space) ≡ refusal
-  unfolding handled resultOk isAnswer
+  unfolding handled isAmong resultOk isAnswer
   zero-refused =
       ⊎-elim
       (λ (a : (kindIn m ≡ 144) × ((resultIn m ≡ 1) ⊎ (resultIn m ≡ 2))). ⊎-elim

@@ -1,7 +1,8 @@
 -- What is from the first TLV at fault on, and a message of which nothing is missing and nothing at fault.
 --     fault-tail           what holds of a list of TLVs and of its tails holds of it
 --     fault-named          the first TLV at fault is one that a rule names
---     target-first         the rules of every type that is handled begin with the Target's
+--     each-any, each-handled     what is tried on each line of the table
+--     target-first, rules-few    the rules of every type that is handled begin with the Target's, and are two at most
 --     target-stands        none is missing: a Target stands
 --     one-circuit          and none is at fault: it has one circuit id
 --     no-fault             a Target with one circuit id is no fault, nor are Commands
@@ -12,12 +13,12 @@ use mathlib.Core.List.{List, [], _∷_}
 use Prim.Native.Nat.{ℕ, suc, _≤_}
 use native.Mathlib.Omega.{arith}
 use lib.ListN.{length, getD}
-use lib.Dec.{eqb}
-use borrow.Author.Tests.{eqb-true, eqb-false, eq-eqb, ne-eqb}
+use lib.Dec.{eqb, ltb}
+use borrow.Author.Tests.{ltb-true, eqb-true, eqb-false, eq-eqb, ne-eqb}
 use Rattle.items.specs.Items.{Item, ofType, countOf, firstOf}
 use Rattle.fields.specs.Fields.{circuitIds, lengthOk}
 use Rattle.rules.specs.declared.Rule.{Rule}
-use Rattle.rules.specs.Rules.{handled, rule, rulesOf}
+use Rattle.rules.specs.Rules.{handled, rule, rulesOf, MessageType, isAmong, rulesAmong, types}
 use Rattle.rules.specs.Named.{lacks, missing, contentOk, stood, atFault, fromFault}
 
 -- ---- from the first one at fault on
@@ -66,34 +67,67 @@ pub record TargetFirst (rs : List Rule) : Type 0 where
   pub others : List Rule
   pub begins : rs ≡ rule 0x1000 true true ∷ others
 
+both : (a b : Bool) → (a && b) ≡ true → (a ≡ true) × (b ≡ true)
+both true true h = (refl, refl)
+both true false h = absurd (false≢true h)
+both false b h = absurd (false≢true h)
+
+-- what is tried on each line of the table holds of the rules of any type: a line more needs no case here
+module _ (test : List Rule → Bool) where
+  each : List MessageType → Bool
+  each [] = true
+  each (t ∷ ts) = test (t .rules) && each ts
+
+  by : (b : Bool) {xs ys : List Rule} → test xs ≡ true → test ys ≡ true → test (cond b xs ys) ≡ true
+  by true h k = h
+  by false h k = k
+
+  each-any : (ts : List MessageType) (kind : ℕ) → each ts ≡ true → test [] ≡ true → test (rulesAmong kind ts) ≡ true
+  unfolding rulesAmong each
+  each-any [] kind h n = n
+  each-any (t ∷ ts) kind h n = let k = both (test (t .rules)) (each ts) h in by (eqb kind (t .kind)) (k .0) (each-any ts kind (k .1) n)
+
+  each-handled : (ts : List MessageType) (kind : ℕ) → each ts ≡ true → isAmong kind ts ≡ true → test (rulesAmong kind ts) ≡ true
+  unfolding rulesAmong isAmong each
+  each-handled [] kind h n = absurd (false≢true n)
+  each-handled (t ∷ ts) kind h n = let k = both (test (t .rules)) (each ts) h in go (eqb kind (t .kind)) (k .0) n (each-handled ts kind (k .1))
+    where
+      go : (b : Bool) → test (t .rules) ≡ true → (b || isAmong kind ts) ≡ true → (isAmong kind ts ≡ true → test (rulesAmong kind ts) ≡ true)
+          → test (cond b (t .rules) (rulesAmong kind ts)) ≡ true
+      go true p n f = p
+      go false p n f = f n
+
+begins : List Rule → Bool
+begins [] = false
+begins (r ∷ rs) = (eqb (r .kind) 0x1000 && eqb (r .instead) 0x1000) && (r .needed && r .single)
+
+target-by : (rs : List Rule) → begins rs ≡ true → TargetFirst rs
+unfolding begins
+target-by [] h = absurd (false≢true h)
+target-by (r ∷ rs) h =
+    let k = both (eqb (r .kind) 0x1000 && eqb (r .instead) 0x1000) (r .needed && r .single) h in
+    let types-are = both (eqb (r .kind) 0x1000) (eqb (r .instead) 0x1000) (k .0) in
+    let marks-are = both (r .needed) (r .single) (k .1) in
+    record { others = rs; begins = ap (λ (x : Rule). x ∷ rs) (same (eqb-true (r .kind) 0x1000 (types-are .0)) (eqb-true (r .instead) 0x1000 (types-are .1)) (marks-are .0) (marks-are .1)) }
+  where
+    same : r .kind ≡ 0x1000 → r .instead ≡ 0x1000 → r .needed ≡ true → r .single ≡ true → r ≡ rule 0x1000 true true
+    same a b c d =
+        ap (λ (x : ℕ). record { kind = x; instead = r .instead; needed = r .needed; single = r .single }) a
+        ∙ ap (λ (x : ℕ). record { kind = 0x1000; instead = x; needed = r .needed; single = r .single }) b
+        ∙ ap (λ (x : Bool). record { kind = 0x1000; instead = 0x1000; needed = x; single = r .single }) c
+        ∙ ap (λ (x : Bool). record { kind = 0x1000; instead = 0x1000; needed = true; single = x }) d
+
+-- the rules of each begin with the Target's
 pub target-first : (kind : ℕ) → handled kind ≡ true → TargetFirst (rulesOf kind)
-unfolding handled rulesOf
-target-first kind h = by (eqb kind 144) (eqb kind 146) (eqb kind 147) (eqb kind 148) (eqb kind 149) h
-  where
-    by : (a b c d e : Bool) → (a || (b || (c || (d || e)))) ≡ true
-        → TargetFirst (cond a (rule 0x1000 true true ∷ rule 0x0011 true false ∷ []) (cond b (rule 0x1000 true true ∷ rule 0x0016 true true ∷ [])
-        (cond c (rule 0x1000 true true ∷ rule 0x0015 true true ∷ []) (cond d (rule 0x1000 true true ∷ []) (cond e (rule 0x1000 true true ∷ []) [])))))
-    by true b c d e h = record { others = rule 0x0011 true false ∷ []; begins = refl }
-    by false true c d e h = record { others = rule 0x0016 true true ∷ []; begins = refl }
-    by false false true d e h = record { others = rule 0x0015 true true ∷ []; begins = refl }
-    by false false false true e h = record { others = []; begins = refl }
-    by false false false false true h = record { others = []; begins = refl }
-    by false false false false false h = absurd (false≢true h)
+unfolding handled rulesOf each begins
+target-first kind h = target-by (rulesAmong kind types) (each-handled begins types kind refl h)
 
--- at most two rules
+-- and are two at most
 pub rules-few : (kind : ℕ) → length (rulesOf kind) ≤ 2
-unfolding rulesOf
-rules-few kind = by (eqb kind 144) (eqb kind 146) (eqb kind 147) (eqb kind 148) (eqb kind 149)
-  where
-    most : (b : Bool) (xs ys : List Rule) → length xs ≤ 2 → length ys ≤ 2 → length (cond b xs ys) ≤ 2
-    most true xs ys h k = h
-    most false xs ys h k = k
-
-    by : (a b c d e : Bool)
-        → length (cond a (rule 0x1000 true true ∷ rule 0x0011 true false ∷ []) (cond b (rule 0x1000 true true ∷ rule 0x0016 true true ∷ [])
-        (cond c (rule 0x1000 true true ∷ rule 0x0015 true true ∷ []) (cond d (rule 0x1000 true true ∷ []) (cond e (rule 0x1000 true true ∷ []) []))))) ≤ 2
-    by a b c d e =
-        most a _ _ (omega arith) (most b _ _ (omega arith) (most c _ _ (omega arith) (most d _ _ (omega arith) (most e _ _ (omega arith) (omega arith)))))
+unfolding rulesOf each
+rules-few kind =
+    let few = ltb-true (length (rulesAmong kind types)) 3 (each-any (λ (rs : List Rule). ltb (length rs) 3) types kind refl refl) in
+    omega arith
 
 -- ---- rules that begin with the Target's
 module _ (others : List Rule) where

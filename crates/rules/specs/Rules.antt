@@ -10,10 +10,48 @@ use lib.Dec.{eqb, ltb}
 use Rattle.rules.specs.declared.Rule.{Rule}
 use Rattle.rules.specs.declared.Rules.{Rules}
 
--- 144, 146, 147, 148 and 149 are handled
-unfoldable pub handled : ℕ → Bool
-handled kind = eqb kind 144 || (eqb kind 146 || (eqb kind 147 || (eqb kind 148 || eqb kind 149)))
+-- ---- the table by type
+-- the rule for the TLVs of type t in a message: `needed`, one of them must stand; `single`, no second one may. Where a
+-- TLV of another type serves as well, that type is `instead`; here none does
+abbrev pub rule : ℕ → Bool → Bool → Rule
+rule t needed single = record { kind = t; instead = t; needed = needed; single = single }
 
+-- a message type, with the TLVs that its rules name, in the row's order; all others are stepped over
+pub record MessageType : Type 0 where
+  pub kind : ℕ
+  pub rules : List Rule
+
+abbrev pub messageType : ℕ → List Rule → MessageType
+messageType kind rules = record { kind = kind; rules = rules }
+
+-- 144, 146, 147, 148 and 149; of TLVs Target 0x1000, Command 0x0011 (144), Bandwidth-Request 0x0016 (146),
+-- Bandwidth-Allocation 0x0015 (147), each with its type, whether it is needed and whether it is single
+abbrev pub types : List MessageType
+types =
+    messageType 144 (rule 0x1000 true true ∷ rule 0x0011 true false ∷ []) ∷
+    messageType 146 (rule 0x1000 true true ∷ rule 0x0016 true true ∷ []) ∷
+    messageType 147 (rule 0x1000 true true ∷ rule 0x0015 true true ∷ []) ∷
+    messageType 148 (rule 0x1000 true true ∷ []) ∷
+    messageType 149 (rule 0x1000 true true ∷ []) ∷
+    []
+
+unfoldable pub isAmong : ℕ → List MessageType → Bool
+isAmong kind [] = false
+isAmong kind (t ∷ ts) = eqb kind (t .kind) || isAmong kind ts
+
+unfoldable pub rulesAmong : ℕ → List MessageType → List Rule
+rulesAmong kind [] = []
+rulesAmong kind (t ∷ ts) = cond (eqb kind (t .kind)) (t .rules) (rulesAmong kind ts)
+
+-- the types of the table are handled
+unfoldable pub handled : ℕ → Bool
+handled kind = isAmong kind types
+
+-- the rules of a type; none where it is not handled
+unfoldable pub rulesOf : ℕ → List Rule
+rulesOf kind = rulesAmong kind types
+
+-- ---- the rest of the header
 -- Result 1 or 2 (144), 0 (146), 2 (148, 149). That of a 147 was looked at before
 unfoldable pub resultOk : ℕ → ℕ → Bool
 resultOk kind result =
@@ -25,23 +63,6 @@ resultOk kind result =
 -- zero is no transaction: a 144, 146, 148 or 149 has one from 1 on. That of a 147 is compared with the open request's
 unfoldable pub transactionOk : ℕ → ℕ → Bool
 transactionOk kind transaction = eqb kind 147 || ltb 0 transaction
-
--- the rule for the TLVs of type t in a message: `needed`, one of them must stand; `single`, no second one may. Where a
--- TLV of another type serves as well, that type is `instead`; here none does
-abbrev pub rule : ℕ → Bool → Bool → Rule
-rule t needed single = record { kind = t; instead = t; needed = needed; single = single }
-
--- the TLVs that a message's rules name, in the row's order, each with its type, whether it is needed and whether it is
--- single: Target 0x1000, Command 0x0011 (144), Bandwidth-Request 0x0016 (146), Bandwidth-Allocation 0x0015 (147). All
--- others are stepped over
-unfoldable pub rulesOf : ℕ → List Rule
-rulesOf kind =
-    cond (eqb kind 144) (rule 0x1000 true true ∷ rule 0x0011 true false ∷ [])
-    (cond (eqb kind 146) (rule 0x1000 true true ∷ rule 0x0016 true true ∷ [])
-    (cond (eqb kind 147) (rule 0x1000 true true ∷ rule 0x0015 true true ∷ [])
-    (cond (eqb kind 148) (rule 0x1000 true true ∷ [])
-    (cond (eqb kind 149) (rule 0x1000 true true ∷ [])
-    []))))
 
 -- ---- as the code has them, field by field; need not be believed
 pub record Filled (r : Rules) : Type 0 where

@@ -29,7 +29,7 @@ use Rattle.begun.specs.Begun.{reallocationOf}
 use Rattle.joins.specs.Joins.{fits, admitNumber, whiteOf, byList, joinRow, joinOf}
 use Rattle.joins.specs.Asks.{askedOf, askOf}
 use Rattle.listing.specs.Listing.{activeRow, activeAt}
-use Rattle.rules.specs.Rules.{handled, resultOk, transactionOk, rulesOf}
+use Rattle.rules.specs.Rules.{handled, resultOk, transactionOk, rulesOf, isAmong, rulesAmong}
 use Rattle.rules.specs.Named.{lacks, missing, contentOk, stood, atFault, fromFault}
 use Rattle.checks.specs.Table.{idIn, located, namedRows, tableOf}
 use Rattle.transfers.specs.Transfers.{reducedTo, transferFails, transferGives, reallocated}
@@ -50,7 +50,7 @@ unfolding flatMap every mapTo sumTo
     idOk channelOk knownList withinAddress entryOk tablesOk firstOk startOf startedOf
     isPort delegationOf committedAt activeRow activeAt sumOver freeIn roomIn began mayAsk
     outcomeOf fits admitNumber whiteOf byList joinRow joinOf askedOf askOf
-    receivedOf byHead byResult isAnswer isNotice requested byType tableOf handled resultOk transactionOk namedRows rulesOf lacks missing contentOk stood atFault fromFault idIn located
+    receivedOf byHead byResult isAnswer isNotice requested byType tableOf handled isAmong resultOk transactionOk namedRows rulesOf rulesAmong lacks missing contentOk stood atFault fromFault idIn located
     reallocated reducedTo transferFails transferGives
     idRow groupAt channelsFrom rates tables upWith ownersFrom channelsIn poolWith cardWith many committed3000 committed3500 crowded
     groupFlow joinCall askCall requestCall byCall shownBy shown caseRows Starred

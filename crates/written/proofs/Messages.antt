@@ -1,7 +1,7 @@
 -- What a message that is handed in writes, check by check: nothing, or the answer of its row or type. Assumes nothing.
 use Prim.Native.Nat.{ℕ, _+_, _<_}
 use mathlib.Core.Path.{_≡_, refl, sym, ap, subst, _∙_}
-use mathlib.Core.Bool.{Bool, true, false, cond}
+use mathlib.Core.Bool.{Bool, true, false, cond, _||_}
 use mathlib.Core.List.{List, [], _∷_, _++_, append-assoc, append-nil}
 use native.Mathlib.Omega.{arith}
 use lib.ListN.{length, drop, length-append}
@@ -20,7 +20,7 @@ use Rattle.card.specs.Cards.{Card, portAt}
 use Rattle.card.specs.Outcome.{Outcome, writes}
 use Rattle.checks.specs.declared.Verdict.{Verdict}
 use Rattle.checks.specs.declared.Verdict.the-variants.{Refused, Passed}
-use Rattle.rules.specs.Rules.{handled, rulesOf}
+use Rattle.rules.specs.Rules.{handled, rulesOf, isAmong}
 use Rattle.rules.proofs.Faults.{fault-tail}
 use Rattle.checks.specs.Table.{faults, refusedOf}
 use Rattle.checks.proofs.Rows.{TablePassed, TableRefused, unhandled, unfit, zero, broken, lacking, faulty, unknown, down, passed-tells, refused-tells}
@@ -62,8 +62,12 @@ succeed-one c (more d r) e = more d (succeed-one c r e)
 
 -- the type that is handled and none of the others
 flow-query : (k : ℕ) → handled k ≡ true → eqb k 144 ≡ false → eqb k 146 ≡ false → eqb k 147 ≡ false → eqb k 148 ≡ false → k ≡ 149
-unfolding handled
-flow-query k h a b c d = eqb-true k 149 (rw (a, b, c, d) at h)
+unfolding handled isAmong
+flow-query k h a b c d = eqb-true k 149 (alone (eqb k 149) (rw (a, b, c, d) at h))
+  where
+    alone : (x : Bool) → (x || false) ≡ true → x ≡ true
+    alone true h = h
+    alone false h = h
 
 module _ (t : Tables) (card : Card) (m : List ℕ) (space : ℕ) (octets : Octets m)
     (good : (p : ℕ) → p < card .head .«port_count» → Good (t .channels) (rowsInOrder (t .channels) (card .pool) p)) where

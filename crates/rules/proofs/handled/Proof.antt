@@ -1,11 +1,11 @@
 use borrow.Author.Tests.{eq-eqb}
-use Rattle.rules.specs.Rules.{handled}
+use Rattle.rules.specs.Rules.{handled, isAmong}
 use Rattle.rules.proofs.Types.{handled-below, handled-last}
 use Rattle.rules.proofs.handled.Statement.{statement}
 use Rattle.rules.proofs.handled.Tie as tie
 
 returns : tie.Need-returns
-unfolding handled
+unfolding handled isAmong
 returns c = rw (eq-eqb _ _ (c .if1 .taken))
 
 returns-2 : tie.Need-returns-2
