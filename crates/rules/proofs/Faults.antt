@@ -1,7 +1,6 @@
 -- What is from the first TLV at fault on, and a message of which nothing is missing and nothing at fault.
 --     fault-tail           what holds of a list of TLVs and of its tails holds of it
 --     fault-named          the first TLV at fault is one that a rule names
---     each-any, each-handled     what is tried on each line of the table
 --     target-first, rules-few    the rules of every type that is handled begin with the Target's, and are two at most
 --     target-stands        none is missing: a Target stands
 --     one-circuit          and none is at fault: it has one circuit id
@@ -18,7 +17,8 @@ use borrow.Author.Tests.{ltb-true, eqb-true, eqb-false, eq-eqb, ne-eqb}
 use Rattle.items.specs.Items.{Item, ofType, countOf, firstOf}
 use Rattle.fields.specs.Fields.{circuitIds, lengthOk}
 use Rattle.rules.specs.declared.Rule.{Rule}
-use Rattle.rules.specs.Rules.{handled, rule, rulesOf, MessageType, isAmong, rulesAmong, types}
+use Rattle.rules.specs.Rules.{rule, types, rulesAmong, handled, rulesOf}
+use Rattle.rules.proofs.Types.{both, each, each-any, each-handled}
 use Rattle.rules.specs.Named.{lacks, missing, contentOk, stood, atFault, fromFault}
 
 -- ---- from the first one at fault on
@@ -66,36 +66,6 @@ module _ (C : ℕ → Type 0) where
 pub record TargetFirst (rs : List Rule) : Type 0 where
   pub others : List Rule
   pub begins : rs ≡ rule 0x1000 true true ∷ others
-
-both : (a b : Bool) → (a && b) ≡ true → (a ≡ true) × (b ≡ true)
-both true true h = (refl, refl)
-both true false h = absurd (false≢true h)
-both false b h = absurd (false≢true h)
-
--- what is tried on each line of the table holds of the rules of any type: a line more needs no case here
-module _ (test : List Rule → Bool) where
-  each : List MessageType → Bool
-  each [] = true
-  each (t ∷ ts) = test (t .rules) && each ts
-
-  by : (b : Bool) {xs ys : List Rule} → test xs ≡ true → test ys ≡ true → test (cond b xs ys) ≡ true
-  by true h k = h
-  by false h k = k
-
-  each-any : (ts : List MessageType) (kind : ℕ) → each ts ≡ true → test [] ≡ true → test (rulesAmong kind ts) ≡ true
-  unfolding rulesAmong each
-  each-any [] kind h n = n
-  each-any (t ∷ ts) kind h n = let k = both (test (t .rules)) (each ts) h in by (eqb kind (t .kind)) (k .0) (each-any ts kind (k .1) n)
-
-  each-handled : (ts : List MessageType) (kind : ℕ) → each ts ≡ true → isAmong kind ts ≡ true → test (rulesAmong kind ts) ≡ true
-  unfolding rulesAmong isAmong each
-  each-handled [] kind h n = absurd (false≢true n)
-  each-handled (t ∷ ts) kind h n = let k = both (test (t .rules)) (each ts) h in go (eqb kind (t .kind)) (k .0) n (each-handled ts kind (k .1))
-    where
-      go : (b : Bool) → test (t .rules) ≡ true → (b || isAmong kind ts) ≡ true → (isAmong kind ts ≡ true → test (rulesAmong kind ts) ≡ true)
-          → test (cond b (t .rules) (rulesAmong kind ts)) ≡ true
-      go true p n f = p
-      go false p n f = f n
 
 begins : List Rule → Bool
 begins [] = false

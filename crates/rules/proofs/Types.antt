@@ -1,39 +1,65 @@
 -- What the rules of a message type ask.
---     handled-last, ..       the types that are handled, as the code tells them
---     filled                 a table of rules whose arrays are whole
+--     each-any, each-handled     what is tried on each line of the table holds of the rules of any type
+--     handled-by                 a type is handled where it has a rule, as the code tells it
+--     filled                     a table of rules whose arrays are whole
 -- Assumes nothing.
 use mathlib.Core.Path.{_≡_, refl}
-use mathlib.Core.Bool.{Bool, true, false, _||_}
-use Prim.Native.Nat.{ℕ, _≤_, _<_}
-use native.Mathlib.Omega.{arith}
+use mathlib.Core.Bool.{Bool, true, false, cond, _&&_, _||_, false≢true}
+use mathlib.Core.List.{List, [], _∷_}
+use Prim.Native.Nat.{ℕ, _≤_}
 use lib.ListN.{length}
-use lib.Dec.{eqb, leb}
-use borrow.Author.Tests.{eqb-true, eqb-false, ne-eqb, le-leb, lt-leb}
+use lib.Dec.{eqb, ltb}
+use Rattle.rules.specs.declared.Rule.{Rule}
 use Rattle.rules.specs.declared.Rules.{Rules}
-use Rattle.rules.specs.Rules.{handled, Filled, isAmong}
+use Rattle.rules.specs.Rules.{MessageType, types, isAmong, rulesAmong, handled, rulesOf, Filled}
 
--- ---- the types that are handled
-last-by : (k : ℕ) (a b c d : Bool) → 146 ≤ k → eqb k 146 ≡ a → eqb k 147 ≡ b → eqb k 148 ≡ c → eqb k 149 ≡ d → leb k 149 ≡ (a || (b || (c || (d || false))))
-last-by k true b c d l ha hb hc hd = le-leb k 149 (omega (arith, eqb-true k 146 ha))
-last-by k false true c d l ha hb hc hd = le-leb k 149 (omega (arith, eqb-true k 147 hb))
-last-by k false false true d l ha hb hc hd = le-leb k 149 (omega (arith, eqb-true k 148 hc))
-last-by k false false false true l ha hb hc hd = le-leb k 149 (omega (arith, eqb-true k 149 hd))
-last-by k false false false false l ha hb hc hd =
-    let na = eqb-false k 146 ha in
-    let nb = eqb-false k 147 hb in
-    let nc = eqb-false k 148 hc in
-    let nd = eqb-false k 149 hd in
-    lt-leb k 149 (omega arith)
+-- ---- the table line by line
+pub both : (a b : Bool) → (a && b) ≡ true → (a ≡ true) × (b ≡ true)
+both true true h = (refl, refl)
+both true false h = absurd (false≢true h)
+both false b h = absurd (false≢true h)
 
-module _ (k : ℕ) (n : k ≡ 144 → ⊥) where
-  pub handled-last : 146 ≤ k → leb k 149 ≡ handled k
-  unfolding handled isAmong
-  handled-last l = rw (ne-eqb k 144 n) (last-by k (eqb k 146) (eqb k 147) (eqb k 148) (eqb k 149) l refl refl refl refl)
+-- what is tried on each line of the table holds of the rules of any type: a line more needs no case here
+module _ (test : List Rule → Bool) where
+  unfoldable pub each : List MessageType → Bool
+  each [] = true
+  each (t ∷ ts) = test (t .rules) && each ts
 
-  pub handled-below : k < 146 → false ≡ handled k
-  unfolding handled isAmong
-  handled-below l =
-      simp (ne-eqb k 144 n, ne-eqb k 146 (λ e. omega arith), ne-eqb k 147 (λ e. omega arith), ne-eqb k 148 (λ e. omega arith), ne-eqb k 149 (λ e. omega arith))
+  by : (b : Bool) {xs ys : List Rule} → test xs ≡ true → test ys ≡ true → test (cond b xs ys) ≡ true
+  by true h k = h
+  by false h k = k
+
+  pub each-any : (ts : List MessageType) (kind : ℕ) → each ts ≡ true → test [] ≡ true → test (rulesAmong kind ts) ≡ true
+  unfolding rulesAmong each
+  each-any [] kind h n = n
+  each-any (t ∷ ts) kind h n = let k = both (test (t .rules)) (each ts) h in by (eqb kind (t .kind)) (k .0) (each-any ts kind (k .1) n)
+
+  pub each-handled : (ts : List MessageType) (kind : ℕ) → each ts ≡ true → isAmong kind ts ≡ true → test (rulesAmong kind ts) ≡ true
+  unfolding rulesAmong isAmong each
+  each-handled [] kind h n = absurd (false≢true n)
+  each-handled (t ∷ ts) kind h n = let k = both (test (t .rules)) (each ts) h in go (eqb kind (t .kind)) (k .0) n (each-handled ts kind (k .1))
+    where
+      go : (b : Bool) → test (t .rules) ≡ true → (b || isAmong kind ts) ≡ true → (isAmong kind ts ≡ true → test (rulesAmong kind ts) ≡ true)
+          → test (cond b (t .rules) (rulesAmong kind ts)) ≡ true
+      go true p n f = p
+      go false p n f = f n
+
+-- a type is handled where it has a rule
+by-rules : (ts : List MessageType) (kind : ℕ) → each (λ rs. ltb 0 (length rs)) ts ≡ true → ltb 0 (length (rulesAmong kind ts)) ≡ isAmong kind ts
+unfolding each rulesAmong isAmong
+by-rules [] kind h = refl
+by-rules (t ∷ ts) kind h =
+    let k = both (ltb 0 (length (t .rules))) (each (λ rs. ltb 0 (length rs)) ts) h in
+    go (eqb kind (t .kind)) (k .0) (by-rules ts kind (k .1))
+  where
+    go : (b : Bool) → ltb 0 (length (t .rules)) ≡ true → ltb 0 (length (rulesAmong kind ts)) ≡ isAmong kind ts
+        → ltb 0 (length (cond b (t .rules) (rulesAmong kind ts))) ≡ (b || isAmong kind ts)
+    go true e f = e
+    go false e f = f
+
+pub handled-by : (kind : ℕ) → ltb 0 (length (rulesOf kind)) ≡ handled kind
+unfolding handled rulesOf each
+handled-by kind = by-rules types kind refl
 
 -- ---- a table of rules whose arrays are whole
 pub filled : {r : Rules} → r .count ≤ 4 → length (r .kinds) ≡ 4 → length (r .instead) ≡ 4 → length (r .needed) ≡ 4 → length (r .single) ≡ 4 → Filled r

@@ -37,16 +37,12 @@ pub struct Rules {
 
 // ---- by the message's type
 
+// Every type that is handled has a rule.
 pub fn handled(kind: u8) -> bool
     ensures { λ r. ⌜ r ≡ handled kind ⌝ }
 {
-    if kind == 144 {
-        return true;
-    }
-    if kind < 146 {
-        return false;
-    }
-    kind <= 149
+    let rules = rules_of(kind);
+    0 < rules.count
 }
 
 pub fn result_ok(kind: u8, result: u8) -> bool
@@ -238,19 +234,15 @@ fn reach_by(rules: Rules, tlvs: &[u8]) -> Reach
         match next {
             First::End => break,
             First::Broken => break,
-            First::Tlv {
-                kind: t,
-                len,
-                size: _,
-            } => {
-                let j = place_of(rules, t);
+            First::Tlv { kind, len, size: _ } => {
+                let j = place_of(rules, kind);
                 if n <= j {
                     at = step.next;
                     continue;
                 }
                 let b = at + 4;
                 let e = b + len;
-                if is_fault(single[j], seen[j], t, &tlvs[b..e]) {
+                if is_fault(single[j], seen[j], kind, &tlvs[b..e]) {
                     return Reach::UpTo(at);
                 }
                 seen[j] = true;
@@ -268,7 +260,7 @@ fn reach_by(rules: Rules, tlvs: &[u8]) -> Reach
     Reach::All
 }
 
-// Where none is at fault.
+// Where none is at fault, by what is missing.
 fn reach_end(rules: Rules, tlvs: &[u8], at: usize) -> Reach
     requires { ⌜ Filled rules ⌝ }
     ensures { λ r. ⌜ r ≡ cond (ltb 0 (length (missing (rulesIn rules) (itemsOf (now (tlvs .entry)))))) (UpTo at) All ⌝ }

@@ -1,22 +1,19 @@
-use borrow.Author.Tests.{eq-eqb}
-use Rattle.rules.specs.Rules.{handled, isAmong}
-use Rattle.rules.proofs.Types.{handled-below, handled-last}
+use mathlib.Core.Path.{sym, ap, _∙_}
+use lib.ListN.{length}
+use lib.Seq.{length-take-le}
+use lib.Dec.{ltb}
+use Rattle.rules.specs.Rules.{allRules}
+use Rattle.rules.proofs.Types.{handled-by}
+use borrow.Author.Needs.{needs}
 use Rattle.rules.proofs.handled.Statement.{statement}
 use Rattle.rules.proofs.handled.Tie as tie
 
+-- src/lib.rt:41:1
 returns : tie.Need-returns
-unfolding handled isAmong
-returns c = rw (eq-eqb _ _ (c .if1 .taken))
-
-returns-2 : tie.Need-returns-2
-returns-2 c = handled-below _ (c .before .if1 .left) (c .if2 .taken)
-
-returns-3 : tie.Need-returns-3
-returns-3 c = handled-last _ (c .before .if1 .left) (c .if2 .left)
+returns c = ap (ltb 0) (sym (length-take-le (c .before .rules-of .result .count) (allRules (c .before .rules-of .result)) (c .before .rules-of .ensures .0 .few)) ∙ ap length (c .before .rules-of .ensures .1)) ∙ handled-by (c .before .before .args .kind)
 
 pub handled-spec : {M : Type 1} → statement M
 handled-spec = tie.close
     (tie.spec
-    returns
-    returns-2
-    returns-3)
+    (λ c κs. search needs)
+    returns)
