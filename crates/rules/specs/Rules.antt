@@ -1,6 +1,6 @@
--- What each message type asks, by its type (CARD.md, "A message, check by check"): whether it is handled, its Results,
--- its transaction number, and the TLVs that its rules name. A type more is a line in each. Assumes nothing: these are
--- definitions.
+-- What each message type asks, by its type (CARD.md, "A message, check by check"): the TLVs that its rules name, its
+-- Results and its transaction number. A type more is a line in `types`, and one in `resultOk` and in `transactionOk` where
+-- it asks something else. Assumes nothing: these are definitions.
 use Prim.Native.Nat.{ℕ, _≤_}
 use mathlib.Core.Path.{_≡_}
 use mathlib.Core.Bool.{Bool, true, false, cond, _||_}
