@@ -58,8 +58,8 @@ unfoldable pub placeOf : ℕ → List Rule → ℕ
 placeOf t [] = 0
 placeOf t (r ∷ rs) = cond (eqb t (r .kind)) 0 (suc (placeOf t rs))
 
--- how far the TLVs s are as the rules ask: all of them, nothing is missing and nothing at fault; or something is, and from
--- the place on stand those from the first at fault on, none where only one is missing
+-- how far the TLVs s are as the rules ask: all of them, where nothing is missing and nothing at fault; or up to a place,
+-- where something is, and from there on stand those from the first one at fault on
 unfoldable pub Reaches : List Rule → List ℕ → Reach → Type 0
 Reaches rs s All = (missing rs (itemsOf s) ≡ []) × (fromFault rs [] (itemsOf s) ≡ [])
 Reaches rs s (UpTo at) =

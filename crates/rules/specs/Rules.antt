@@ -51,7 +51,7 @@ handled kind = isAmong kind types
 unfoldable pub rulesOf : ℕ → List Rule
 rulesOf kind = rulesAmong kind types
 
--- ---- the rest of the header
+-- ---- Result and transaction
 -- Result 1 or 2 (144), 0 (146), 2 (148, 149). That of a 147 was looked at before
 unfoldable pub resultOk : ℕ → ℕ → Bool
 resultOk kind result =

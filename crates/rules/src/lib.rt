@@ -206,7 +206,7 @@ fn put_if_missing(buf: &mut [u8], r: Rule, tlvs: &[u8]) -> usize
 // ---- what is at fault
 
 // How far a message's TLVs are as its rules ask: all of them, and none is missing; or up to a place, that of the first
-// TLV at fault or, where only one is missing, that where they end.
+// TLV at fault, or where they end if none is at fault and one is missing.
 pub enum Reach {
     All,
     UpTo(usize),
