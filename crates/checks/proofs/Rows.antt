@@ -29,7 +29,7 @@ use Rattle.card.specs.Parts.{HasTerms}
 use Rattle.card.proofs.Parts.{ports-are, is-up}
 use Rattle.rules.specs.Rules.{handled, resultOk, transactionOk, rulesOf}
 use Rattle.rules.specs.Named.{missing}
-use Rattle.rules.proofs.Walk.{none-of}
+use Rattle.rules.proofs.Walk.{empty-by}
 use Rattle.checks.specs.declared.Verdict.{Verdict}
 use Rattle.checks.specs.declared.Verdict.the-variants.{Refused, Passed}
 use Rattle.checks.specs.Table.{idIn, numberOf, portNamed, Located, located, faults, namedRows, tableOf}
@@ -59,7 +59,7 @@ module _ (ids : List ℕ) (card : Card) (kind : ℕ) (s : List ℕ) where
     where
       faulty : ltb 0 (absences kind s) ≡ false → (f : Bool) → ltb 0 (length (faults kind s)) ≡ f → f ≡ true
       faulty g true h = refl
-      faulty g false h = absurd (bad (none-of (missing (rulesOf kind) (itemsOf s)) g) (none-of (faults kind s) h))
+      faulty g false h = absurd (bad (empty-by (missing (rulesOf kind) (itemsOf s)) g) (empty-by (faults kind s) h))
 
       by : (b : Bool) → ltb 0 (absences kind s) ≡ b → Refused (cond b 0x54 0x55) ≡ namedRows ids card kind s
       by true g = row-54 g

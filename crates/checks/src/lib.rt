@@ -2,7 +2,7 @@
 use fields::TARGET;
 use header::Header;
 use rows::Found;
-use rules::Reach;
+use rules::Extent;
 use tlv::First;
 ghost use mathlib.Core.Path.{_≡_};
 ghost use mathlib.Core.Bool.{cond};
@@ -67,10 +67,10 @@ pub fn check_table(
 fn check_named(named: usize, up: bool, kind: u8, tlvs: &[u8]) -> Verdict
     ensures { λ r. ⌜ ((ids : List ℕ) (card : Card) → Located ids card (now (tlvs .entry)) named up → r ≡ namedRows ids card kind (now (tlvs .entry))) ⌝ }
 {
-    let reach = rules::reach_of(kind, tlvs);
-    match reach {
-        Reach::All => check_port(named, up),
-        Reach::UpTo(_) => Verdict::Refused(named_code(kind, tlvs)),
+    let extent = rules::extent_of(kind, tlvs);
+    match extent {
+        Extent::All => check_port(named, up),
+        Extent::UpTo(_) => Verdict::Refused(named_code(kind, tlvs)),
     }
 }
 

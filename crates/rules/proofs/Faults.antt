@@ -18,7 +18,9 @@ use Rattle.items.specs.Items.{Item, ofType, countOf, firstOf}
 use Rattle.fields.specs.Fields.{circuitIds, lengthOk}
 use Rattle.rules.specs.declared.Rule.{Rule}
 use Rattle.rules.specs.Rules.{rule, types, rulesAmong, handled, rulesOf}
-use Rattle.rules.proofs.Types.{both, each, each-any, each-handled}
+use Rattle.octets.specs.Tests.{every}
+use Rattle.octets.proofs.Tests.{each}
+use Rattle.rules.proofs.Types.{tried, tried-any, tried-handled}
 use Rattle.rules.specs.Named.{lacks, missing, contentOk, stood, atFault, fromFault}
 
 -- ---- from the first one at fault on
@@ -67,18 +69,20 @@ pub record TargetFirst (rs : List Rule) : Type 0 where
   pub others : List Rule
   pub begins : rs ≡ rule 0x1000 true true ∷ others
 
+-- the Target's rule stands first, as a test
+tests : Rule → List Bool
+tests r = eqb (r .kind) 0x1000 ∷ eqb (r .instead) 0x1000 ∷ r .needed ∷ r .single ∷ []
+
 begins : List Rule → Bool
 begins [] = false
-begins (r ∷ rs) = (eqb (r .kind) 0x1000 && eqb (r .instead) 0x1000) && (r .needed && r .single)
+begins (r ∷ rs) = every (tests r)
 
 target-by : (rs : List Rule) → begins rs ≡ true → TargetFirst rs
-unfolding begins
+unfolding begins tests
 target-by [] h = absurd (false≢true h)
 target-by (r ∷ rs) h =
-    let k = both (eqb (r .kind) 0x1000 && eqb (r .instead) 0x1000) (r .needed && r .single) h in
-    let types-are = both (eqb (r .kind) 0x1000) (eqb (r .instead) 0x1000) (k .0) in
-    let marks-are = both (r .needed) (r .single) (k .1) in
-    record { others = rs; begins = ap (λ (x : Rule). x ∷ rs) (same (eqb-true (r .kind) 0x1000 (types-are .0)) (eqb-true (r .instead) 0x1000 (types-are .1)) (marks-are .0) (marks-are .1)) }
+    let t = each (tests r) h in
+    record { others = rs; begins = ap (λ (x : Rule). x ∷ rs) (same (eqb-true (r .kind) 0x1000 (t .0)) (eqb-true (r .instead) 0x1000 (t .1 .0)) (t .1 .1 .0) (t .1 .1 .1 .0)) }
   where
     same : r .kind ≡ 0x1000 → r .instead ≡ 0x1000 → r .needed ≡ true → r .single ≡ true → r ≡ rule 0x1000 true true
     same a b c d =
@@ -89,14 +93,14 @@ target-by (r ∷ rs) h =
 
 -- the rules of each begin with the Target's
 pub target-first : (kind : ℕ) → handled kind ≡ true → TargetFirst (rulesOf kind)
-unfolding handled rulesOf each begins
-target-first kind h = target-by (rulesAmong kind types) (each-handled begins types kind refl h)
+unfolding handled rulesOf tried begins tests every
+target-first kind h = target-by (rulesAmong kind types) (tried-handled begins types kind refl h)
 
 -- and are two at most
 pub rules-few : (kind : ℕ) → length (rulesOf kind) ≤ 2
-unfolding rulesOf each
+unfolding rulesOf tried
 rules-few kind =
-    let few = ltb-true (length (rulesAmong kind types)) 3 (each-any (λ (rs : List Rule). ltb (length rs) 3) types kind refl refl) in
+    let few = ltb-true (length (rulesAmong kind types)) 3 (tried-any (λ (rs : List Rule). ltb (length rs) 3) types kind refl refl) in
     omega arith
 
 -- ---- rules that begin with the Target's

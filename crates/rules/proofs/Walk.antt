@@ -1,8 +1,8 @@
 -- The walk to the first TLV at fault.
 --     place-start, place-here, place-on, place-end     a search for the rule of a type, turn by turn
 --     walk-start, walk-free, walk-good, walk-fault, walk-end     its beginning, one turn, and its end
---     reach-fault, reach-last      how far it goes, by where it ends
---     reached-all, reached-fits, reached-rest, reached-bad     what is known by it
+--     extent-fault, extent-last      how far it goes, by where it ends
+--     extent-all, extent-fits, extent-rest, extent-bad     what is known by it
 -- Assumes nothing.
 use mathlib.Core.Path.{_≡_, refl, sym, ap, subst, _∙_}
 use mathlib.Core.Bool.{Bool, true, false, cond, not, _&&_, _||_, false≢true}
@@ -15,9 +15,9 @@ use lib.Dec.{eqb, ltb}
 use borrow.Author.Tests.{ltb-true, ltb-false, eqb-true, eqb-false, eq-eqb, ne-eqb}
 use Rattle.items.specs.Items.{Item, itemsOf, ofType, countOf}
 use Rattle.rules.specs.declared.Rule.{Rule}
-use Rattle.rules.specs.declared.Reach.{Reach}
-use Rattle.rules.specs.declared.Reach.the-variants.{All, UpTo}
-use Rattle.rules.specs.Named.{missing, contentOk, stood, atFault, fromFault, placeOf, Reaches}
+use Rattle.rules.specs.declared.Extent.{Extent}
+use Rattle.rules.specs.declared.Extent.the-variants.{All, UpTo}
+use Rattle.rules.specs.Named.{missing, contentOk, stood, atFault, fromFault, placeOf, HasExtent}
 use Rattle.rules.proofs.Named.{none, rules-cons, rules-past, Marked}
 
 -- ---- one TLV by its rule
@@ -202,40 +202,40 @@ module _ (rs : List Rule) (seen : List Bool) (all : List Item) (i : Item) (is : 
         }
 
 -- ---- how far it goes
-pub none-of : {A : Type 0} (l : List A) → ltb 0 (length l) ≡ false → l ≡ []
-none-of [] h = refl
-none-of (x ∷ l) h = absurd (omega (arith, ltb-false 0 (length (x ∷ l)) h))
+pub empty-by : {A : Type 0} (l : List A) → ltb 0 (length l) ≡ false → l ≡ []
+empty-by [] h = refl
+empty-by (x ∷ l) h = absurd (omega (arith, ltb-false 0 (length (x ∷ l)) h))
 
 module _ (rs : List Rule) (s : List ℕ) (at : ℕ) (fit : at ≤ length s) where
   -- up to a TLV at fault
-  pub reach-fault : {i : Item} {is : List Item} → itemsOf (drop at s) ≡ i ∷ is → fromFault rs [] (itemsOf s) ≡ i ∷ is → Reaches rs s (UpTo at)
-  unfolding Reaches
-  reach-fault e f = (fit, e ∙ sym f, λ m g. omega (arith, ap length f, ap length g))
+  pub extent-fault : {i : Item} {is : List Item} → itemsOf (drop at s) ≡ i ∷ is → fromFault rs [] (itemsOf s) ≡ i ∷ is → HasExtent rs s (UpTo at)
+  unfolding HasExtent
+  extent-fault e f = (fit, e ∙ sym f, λ m g. omega (arith, ap length f, ap length g))
 
   -- to the end of them, by what is missing
-  pub reach-last : (b : Bool) → ltb 0 (length (missing rs (itemsOf s))) ≡ b → itemsOf (drop at s) ≡ [] → fromFault rs [] (itemsOf s) ≡ [] → Reaches rs s (cond b (UpTo at) All)
-  unfolding Reaches
-  reach-last true m e f = (fit, e ∙ sym f, λ n g. omega (arith, ltb-true 0 (length (missing rs (itemsOf s))) m, ap length n))
-  reach-last false m e f = (none-of (missing rs (itemsOf s)) m, f)
+  pub extent-last : (b : Bool) → ltb 0 (length (missing rs (itemsOf s))) ≡ b → itemsOf (drop at s) ≡ [] → fromFault rs [] (itemsOf s) ≡ [] → HasExtent rs s (cond b (UpTo at) All)
+  unfolding HasExtent
+  extent-last true m e f = (fit, e ∙ sym f, λ n g. omega (arith, ltb-true 0 (length (missing rs (itemsOf s))) m, ap length n))
+  extent-last false m e f = (empty-by (missing rs (itemsOf s)) m, f)
 
 -- what is known by it
-module _ (rs : List Rule) (s : List ℕ) {r : Reach} (reached : Reaches rs s r) where
-  pub reached-all : r ≡ All → (missing rs (itemsOf s) ≡ []) × (fromFault rs [] (itemsOf s) ≡ [])
-  unfolding Reaches
-  reached-all e = subst (Reaches rs s) e reached
+module _ (rs : List Rule) (s : List ℕ) {r : Extent} (has : HasExtent rs s r) where
+  pub extent-all : r ≡ All → (missing rs (itemsOf s) ≡ []) × (fromFault rs [] (itemsOf s) ≡ [])
+  unfolding HasExtent
+  extent-all e = subst (HasExtent rs s) e has
 
   module _ {at : ℕ} (e : r ≡ UpTo at) where
-    up-to : Reaches rs s (UpTo at)
-    up-to = subst (Reaches rs s) e reached
+    up-to : HasExtent rs s (UpTo at)
+    up-to = subst (HasExtent rs s) e has
 
-    pub reached-fits : at ≤ length s
-    unfolding Reaches
-    reached-fits = up-to .0
+    pub extent-fits : at ≤ length s
+    unfolding HasExtent
+    extent-fits = up-to .0
 
-    pub reached-rest : itemsOf (drop at s) ≡ fromFault rs [] (itemsOf s)
-    unfolding Reaches
-    reached-rest = up-to .1
+    pub extent-rest : itemsOf (drop at s) ≡ fromFault rs [] (itemsOf s)
+    unfolding HasExtent
+    extent-rest = up-to .1
 
-    pub reached-bad : missing rs (itemsOf s) ≡ [] → fromFault rs [] (itemsOf s) ≡ [] → ⊥
-    unfolding Reaches
-    reached-bad = up-to .2
+    pub extent-bad : missing rs (itemsOf s) ≡ [] → fromFault rs [] (itemsOf s) ≡ [] → ⊥
+    unfolding HasExtent
+    extent-bad = up-to .2

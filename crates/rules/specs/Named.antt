@@ -10,8 +10,8 @@ use Rattle.items.specs.Items.{Item, itemsOf, countOf}
 use Rattle.fields.specs.Fields.{circuitIds, lengthOk}
 use Rattle.writers.specs.Tlvs.{bareOf}
 use Rattle.rules.specs.declared.Rule.{Rule}
-use Rattle.rules.specs.declared.Reach.{Reach}
-use Rattle.rules.specs.declared.Reach.the-variants.{All, UpTo}
+use Rattle.rules.specs.declared.Extent.{Extent}
+use Rattle.rules.specs.declared.Extent.the-variants.{All, UpTo}
 
 -- ---- 0x54
 -- the rule needs a TLV, and none stands
@@ -60,7 +60,7 @@ placeOf t (r ∷ rs) = cond (eqb t (r .kind)) 0 (suc (placeOf t rs))
 
 -- how far the TLVs s are as the rules ask: all of them, where nothing is missing and nothing at fault; or up to a place,
 -- where something is, and from there on stand those from the first one at fault on
-unfoldable pub Reaches : List Rule → List ℕ → Reach → Type 0
-Reaches rs s All = (missing rs (itemsOf s) ≡ []) × (fromFault rs [] (itemsOf s) ≡ [])
-Reaches rs s (UpTo at) =
+unfoldable pub HasExtent : List Rule → List ℕ → Extent → Type 0
+HasExtent rs s All = (missing rs (itemsOf s) ≡ []) × (fromFault rs [] (itemsOf s) ≡ [])
+HasExtent rs s (UpTo at) =
     (at ≤ length s) × (itemsOf (drop at s) ≡ fromFault rs [] (itemsOf s)) × (missing rs (itemsOf s) ≡ [] → fromFault rs [] (itemsOf s) ≡ [] → ⊥)

@@ -14,8 +14,8 @@ ghost use lib.Dec.{eqb, ltb};
 ghost use Rattle.octets.specs.Writing.{Wrote};
 ghost use Rattle.items.specs.Items.{itemsOf, countOf};
 ghost use Rattle.rules.specs.Rules.{handled, resultOk, transactionOk, rulesOf, Filled, ruleAt, rulesIn};
-ghost use Rattle.rules.specs.declared.Reach.the-variants.{All, UpTo};
-ghost use Rattle.rules.specs.Named.{lacks, missing, bares, contentOk, fromFault, placeOf, Reaches};
+ghost use Rattle.rules.specs.declared.Extent.the-variants.{All, UpTo};
+ghost use Rattle.rules.specs.Named.{lacks, missing, bares, contentOk, fromFault, placeOf, HasExtent};
 
 // The rule for the TLVs of type `kind` in a message: `needed`, one of them or of type `instead` must stand; `single`, no
 // second one may.
@@ -207,21 +207,21 @@ fn put_if_missing(buf: &mut [u8], r: Rule, tlvs: &[u8]) -> usize
 
 // How far a message's TLVs are as its rules ask: all of them, and none is missing; or up to a place, that of the first
 // TLV at fault, or where they end if none is at fault and one is missing.
-pub enum Reach {
+pub enum Extent {
     All,
     UpTo(usize),
 }
 
-pub fn reach_of(kind: u8, tlvs: &[u8]) -> Reach
-    ensures { λ r. ⌜ Reaches (rulesOf kind) (now (tlvs .entry)) r ⌝ }
+pub fn extent_of(kind: u8, tlvs: &[u8]) -> Extent
+    ensures { λ r. ⌜ HasExtent (rulesOf kind) (now (tlvs .entry)) r ⌝ }
 {
-    reach_by(rules_of(kind), tlvs)
+    extent_by(rules_of(kind), tlvs)
 }
 
 // A rule is `seen` once a TLV of its type has stood.
-fn reach_by(rules: Rules, tlvs: &[u8]) -> Reach
+fn extent_by(rules: Rules, tlvs: &[u8]) -> Extent
     requires { ⌜ Filled rules ⌝ }
-    ensures { λ r. ⌜ Reaches (rulesIn rules) (now (tlvs .entry)) r ⌝ }
+    ensures { λ r. ⌜ HasExtent (rulesIn rules) (now (tlvs .entry)) r ⌝ }
 {
     let n = rules.count;
     let single = rules.single;
@@ -243,7 +243,7 @@ fn reach_by(rules: Rules, tlvs: &[u8]) -> Reach
                 let b = at + 4;
                 let e = b + len;
                 if is_fault(single[j], seen[j], kind, &tlvs[b..e]) {
-                    return Reach::UpTo(at);
+                    return Extent::UpTo(at);
                 }
                 seen[j] = true;
                 at = step.next;
@@ -253,32 +253,32 @@ fn reach_by(rules: Rules, tlvs: &[u8]) -> Reach
     let mut i: usize = 0;
     while i < n {
         if needed[i] && !seen[i] {
-            return reach_end(rules, tlvs, at);
+            return extent_end(rules, tlvs, at);
         }
         i += 1;
     }
-    Reach::All
+    Extent::All
 }
 
 // Where none is at fault, by what is missing.
-fn reach_end(rules: Rules, tlvs: &[u8], at: usize) -> Reach
+fn extent_end(rules: Rules, tlvs: &[u8], at: usize) -> Extent
     requires { ⌜ Filled rules ⌝ }
     ensures { λ r. ⌜ r ≡ cond (ltb 0 (length (missing (rulesIn rules) (itemsOf (now (tlvs .entry)))))) (UpTo at) All ⌝ }
 {
     if is_missing(rules, tlvs) {
-        return Reach::UpTo(at);
+        return Extent::UpTo(at);
     }
-    Reach::All
+    Extent::All
 }
 
 // The part from the first TLV at fault on.
 pub fn from_fault<'a>(kind: u8, tlvs: &'a [u8]) -> &'a [u8]
     ensures { λ r. ⌜ itemsOf (now r) ≡ fromFault (rulesOf kind) [] (itemsOf (now (tlvs .entry))) ⌝ }
 {
-    let reach = reach_of(kind, tlvs);
-    match reach {
-        Reach::All => &tlvs[0..0],
-        Reach::UpTo(at) => &tlvs[at..],
+    let extent = extent_of(kind, tlvs);
+    match extent {
+        Extent::All => &tlvs[0..0],
+        Extent::UpTo(at) => &tlvs[at..],
     }
 }
 

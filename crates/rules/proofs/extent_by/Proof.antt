@@ -3,8 +3,8 @@ use borrow.Author.Tests.{not-false}
 use Rattle.rules.specs.Named.{missing}
 use Rattle.rules.proofs.Named.{missing-on, missing-end, free-lacks, marked-lacks}
 use borrow.Author.Needs.{needs}
-use Rattle.rules.proofs.Walk.{reach-fault, reach-last}
-use Rattle.rules.specs.Named.{Reaches}
+use Rattle.rules.proofs.Walk.{extent-fault, extent-last}
+use Rattle.rules.specs.Named.{HasExtent}
 use mathlib.Core.Path.{_≡_, refl, sym, ap, subst, _∙_}
 use mathlib.Core.List.{List, [], _∷_}
 use mathlib.Core.Bool.{false}
@@ -20,8 +20,8 @@ use Rattle.rules.specs.declared.Rule.{Rule}
 use Rattle.rules.specs.Rules.{allRules, rulesIn}
 use Rattle.rules.proofs.Named.{none, rule-is}
 use Rattle.rules.proofs.Walk.{Walked, walk-start, walk-free, walk-good, walk-fault, walk-end}
-use Rattle.rules.proofs.reach_by.Statement.{statement}
-use Rattle.rules.proofs.reach_by.Tie as tie
+use Rattle.rules.proofs.extent_by.Statement.{statement}
+use Rattle.rules.proofs.extent_by.Tie as tie
 
 abbrev Inv-loop : tie.InvT-loop
 Inv-loop rules tlvs n single needed seen₀ at₀ seen at = (at ≤ length tlvs) × (length seen ≡ 4) × Walked (rulesIn rules) seen (itemsOf tlvs) (itemsOf (drop at tlvs))
@@ -102,7 +102,7 @@ part-is-fault-end c = omega (arith, fit (c .before .before))
 
 -- src/lib.rt:254:21
 returns : tie.Need-returns Inv-loop μ-loop Inv-loop2 μ-loop2
-returns c = reach-fault (rulesIn (c .before .before .before .before .before .before .before .before .before .before .before .before .before .args .rules)) (c .before .before .before .before .before .before .before .before .before .before .before .before .before .args .tlvs .now) (c .before .before .before .before .before .before .before .before .before .loop .at) (c .before .before .before .before .before .before .before .before .before .loop .inv .0) (first (c .before .before .before .before .before)) (walk-fault (rulesIn (c .before .before .before .before .before .before .before .before .before .before .before .before .before .args .rules)) _ _ (tlv (c .before .before .before .before .before)) (after (c .before .before .before .before .before)) (walked (c .before .before .before .before .before)) (c .before .before .before .before .place-of .result) (getD (c .before .before .before .before .before .before .before .before .before .before .before .before .before .args .rules .single) (c .before .before .before .before .place-of .result) false) (c .before .before .before .before .place-of .ensures) (omega (arith, many (c .before .before .before .before .before), c .before .before .before .if1 .left)) (single-is (c .before .before .before)) (sym (rw add-sub-cancel-left at (c .before .is-fault .ensures)) ∙ c .if2 .taken))
+returns c = extent-fault (rulesIn (c .before .before .before .before .before .before .before .before .before .before .before .before .before .args .rules)) (c .before .before .before .before .before .before .before .before .before .before .before .before .before .args .tlvs .now) (c .before .before .before .before .before .before .before .before .before .loop .at) (c .before .before .before .before .before .before .before .before .before .loop .inv .0) (first (c .before .before .before .before .before)) (walk-fault (rulesIn (c .before .before .before .before .before .before .before .before .before .before .before .before .before .args .rules)) _ _ (tlv (c .before .before .before .before .before)) (after (c .before .before .before .before .before)) (walked (c .before .before .before .before .before)) (c .before .before .before .before .place-of .result) (getD (c .before .before .before .before .before .before .before .before .before .before .before .before .before .args .rules .single) (c .before .before .before .before .place-of .result) false) (c .before .before .before .before .place-of .ensures) (omega (arith, many (c .before .before .before .before .before), c .before .before .before .if1 .left)) (single-is (c .before .before .before)) (sym (rw add-sub-cancel-left at (c .before .is-fault .ensures)) ∙ c .if2 .taken))
 
 -- src/lib.rt:256:17
 array-write-seen : tie.Need-array-write-seen Inv-loop μ-loop Inv-loop2 μ-loop2
@@ -129,12 +129,12 @@ array-read-if4 : tie.Need-array-read-if4 Inv-loop μ-loop Inv-loop2 μ-loop2
 array-read-if4 c = omega (arith, c .before .before .before .before .before .before .before .before .before .pre .few)
 
 -- src/lib.rt:264:13
-reach-end-requires : tie.Need-reach-end-requires Inv-loop μ-loop Inv-loop2 μ-loop2
-reach-end-requires c κs = c .before .before .before .before .before .before .before .before .before .before .pre
+extent-end-requires : tie.Need-extent-end-requires Inv-loop μ-loop Inv-loop2 μ-loop2
+extent-end-requires c κs = c .before .before .before .before .before .before .before .before .before .before .pre
 
 -- src/lib.rt:264:13
 returns-2 : tie.Need-returns-2 Inv-loop μ-loop Inv-loop2 μ-loop2
-returns-2 c = subst (Reaches (rulesIn (c .before .before .before .before .before .before .before .before .before .before .before .args .rules)) (c .before .before .before .before .before .before .before .before .before .before .before .args .tlvs .now)) (sym (c .reach-end .ensures)) (reach-last (rulesIn (c .before .before .before .before .before .before .before .before .before .before .before .args .rules)) (c .before .before .before .before .before .before .before .before .before .before .before .args .tlvs .now) (c .before .before .before .before .before .before .before .loop .at) (c .before .before .before .before .before .before .before .loop .inv .0) _ refl (past (c .before .before .before .before .before)) (sym (walk-end (c .before .before .before .before .before .before .before .loop .inv .2) (past (c .before .before .before .before .before))) ∙ past (c .before .before .before .before .before)))
+returns-2 c = subst (HasExtent (rulesIn (c .before .before .before .before .before .before .before .before .before .before .before .args .rules)) (c .before .before .before .before .before .before .before .before .before .before .before .args .tlvs .now)) (sym (c .extent-end .ensures)) (extent-last (rulesIn (c .before .before .before .before .before .before .before .before .before .before .before .args .rules)) (c .before .before .before .before .before .before .before .before .before .before .before .args .tlvs .now) (c .before .before .before .before .before .before .before .loop .at) (c .before .before .before .before .before .before .before .loop .inv .0) _ refl (past (c .before .before .before .before .before)) (sym (walk-end (c .before .before .before .before .before .before .before .loop .inv .2) (past (c .before .before .before .before .before))) ∙ past (c .before .before .before .before .before)))
 
 -- src/lib.rt:262:5
 loop2-again : tie.Need-loop2-again Inv-loop μ-loop Inv-loop2 μ-loop2
@@ -142,10 +142,10 @@ loop2-again c = (omega arith, missing-on (itemsOf (c .before .before .before .be
 
 -- src/lib.rt:226:1
 returns-3 : tie.Need-returns-3 Inv-loop μ-loop Inv-loop2 μ-loop2
-returns-3 c = reach-last (rulesIn (c .before .before .before .before .before .before .before .before .args .rules)) (c .before .before .before .before .before .before .before .before .args .tlvs .now) (c .before .before .before .before .loop .at) (c .before .before .before .before .loop .inv .0) false (sym (missing-end (itemsOf (c .before .before .before .before .before .before .before .before .args .tlvs .now)) (allRules (c .before .before .before .before .before .before .before .before .args .rules)) (c .before .before .before .before .before .before .before .before .args .rules .count) (c .before .loop2 .i) (c .loop2-test .left) (c .before .loop2 .inv .1))) (past (c .before .before)) (sym (walk-end (c .before .before .before .before .loop .inv .2) (past (c .before .before))) ∙ past (c .before .before))
+returns-3 c = extent-last (rulesIn (c .before .before .before .before .before .before .before .before .args .rules)) (c .before .before .before .before .before .before .before .before .args .tlvs .now) (c .before .before .before .before .loop .at) (c .before .before .before .before .loop .inv .0) false (sym (missing-end (itemsOf (c .before .before .before .before .before .before .before .before .args .tlvs .now)) (allRules (c .before .before .before .before .before .before .before .before .args .rules)) (c .before .before .before .before .before .before .before .before .args .rules .count) (c .before .loop2 .i) (c .loop2-test .left) (c .before .loop2 .inv .1))) (past (c .before .before)) (sym (walk-end (c .before .before .before .before .loop .inv .2) (past (c .before .before))) ∙ past (c .before .before))
 
-pub reach-by-spec : {M : Type 1} → statement M
-reach-by-spec =
+pub extent-by-spec : {M : Type 1} → statement M
+extent-by-spec =
     tie.close
     (tie.spec
     Inv-loop
@@ -179,7 +179,7 @@ reach-by-spec =
     loop2-holds
     array-read-if3
     array-read-if4
-    reach-end-requires
+    extent-end-requires
     returns-2
     (λ c. search needs)
     (λ c. search needs)

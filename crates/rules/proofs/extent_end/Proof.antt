@@ -1,9 +1,9 @@
 use mathlib.Core.Path.{sym, ap, _∙_}
 use mathlib.Core.Bool.{Bool, cond}
-use Rattle.rules.specs.declared.Reach.the-variants.{All, UpTo}
+use Rattle.rules.specs.declared.Extent.the-variants.{All, UpTo}
 use borrow.Author.Needs.{needs}
-use Rattle.rules.proofs.reach_end.Statement.{statement}
-use Rattle.rules.proofs.reach_end.Tie as tie
+use Rattle.rules.proofs.extent_end.Statement.{statement}
+use Rattle.rules.proofs.extent_end.Tie as tie
 
 -- src/lib.rt:277:9
 returns : tie.Need-returns
@@ -13,8 +13,8 @@ returns c = ap (λ (b : Bool). cond b (UpTo (c .before .before .before .args .at
 returns-2 : tie.Need-returns-2
 returns-2 c = ap (λ (b : Bool). cond b (UpTo (c .before .before .before .args .at)) All) (sym (c .if1 .left) ∙ c .before .is-missing .ensures)
 
-pub reach-end-spec : {M : Type 1} → statement M
-reach-end-spec = tie.close
+pub extent-end-spec : {M : Type 1} → statement M
+extent-end-spec = tie.close
     (tie.spec
     (λ c κs. search needs)
     returns
