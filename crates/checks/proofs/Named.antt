@@ -44,23 +44,31 @@ fault-short kind s e =
     omega (arith, (rw e at (fault-tail (rulesOf kind) (Fit (length s)) (λ i is h. h .1) [] (itemsOf s) (items-fit s))) .0)
 
 -- ---- what a refusal encloses
-module _ (kind : ℕ) (s : List ℕ) where
-  copy-words : length s ≤ 4096 → (is : List Item) → faults kind s ≡ is → Words 1027 (copyOf is)
-  unfolding copyOf
-  copy-words h [] e = record { most = omega arith; whole = refl }
-  copy-words h (i ∷ is) e =
-      let l = length-tlv (i .kind) (i .content) in
-      record { most = omega (arith, l, fault-short kind s e); whole = omega (arith, l) }
+either-words : {n : ℕ} (b : Bool) {v w : List ℕ} → Words n v → Words n w → Words n (cond b v w)
+either-words true x y = x
+either-words false x y = y
 
-  pub enclosed-words : length s ≤ 4096 → (code : ℕ) → Words 1027 (enclosedOf kind s code)
-  unfolding enclosedOf
-  enclosed-words h code = by (eqb code 0x54) (eqb code 0x55) (eqb code 0x500 || eqb code 0x6)
-    where
-      by : (a b c : Bool) → Words 1027 (cond a (bares (missing (rulesOf kind) (itemsOf s))) (cond b (copyOf (faults kind s)) (cond c (targetOf (idIn s)) [])))
-      by true b c = let w = all-words kind (itemsOf s) in record { most = omega (arith, w .most); whole = w .whole }
-      by false true c = copy-words h (faults kind s) refl
-      by false false true = let l = length-target (idIn s) in record { most = omega (arith, l, id-fits s); whole = omega (arith, l) }
-      by false false false = record { most = omega arith; whole = refl }
+module _ (kind : ℕ) (s : List ℕ) where
+  module _ (h : length s ≤ 4096) where
+    bare-words : Words 1027 (bares (missing (rulesOf kind) (itemsOf s)))
+    bare-words = let w = all-words kind (itemsOf s) in record { most = omega (arith, w .most); whole = w .whole }
+
+    copy-words : (is : List Item) → faults kind s ≡ is → Words 1027 (copyOf is)
+    unfolding copyOf
+    copy-words [] e = record { most = omega arith; whole = refl }
+    copy-words (i ∷ is) e =
+        let l = length-tlv (i .kind) (i .content) in
+        record { most = omega (arith, l, fault-short kind s e); whole = omega (arith, l) }
+
+    target-words : Words 1027 (targetOf (idIn s))
+    target-words = let l = length-target (idIn s) in record { most = omega (arith, l, id-fits s); whole = omega (arith, l) }
+
+    pub enclosed-words : (code : ℕ) → Words 1027 (enclosedOf kind s code)
+    unfolding enclosedOf
+    enclosed-words code =
+        either-words (eqb code 0x54) bare-words
+        (either-words (eqb code 0x55) (copy-words (faults kind s) refl)
+        (either-words (eqb code 0x500 || eqb code 0x6) target-words (record { most = omega arith; whole = refl })))
 
   pub enclosed-500 : {code : ℕ} → code ≡ 0x500 → enclosedOf kind s code ≡ targetOf (idIn s)
   unfolding enclosedOf
