@@ -32,13 +32,13 @@ static int prefix(uint32_t n, const uint32_t *a, const uint32_t *b) {
 
 __attribute__((noinline)) static uint32_t c_list(const uint32_t *t, size_t n, const flow *f) {
     static const uint32_t strength[4] = {0, 1, 3, 2}, list[4] = {0, 1, 3, 2};
-    uint32_t best = 0;
+    uint64_t best = 0;
     for (size_t i = 0; i < n; i++) {
         const uint32_t *e = t + i * 12;
         if (e[0] != (uint32_t)f->family || !prefix(e[2], e + 4, f->group)) continue;
         if (f->sourced ? !prefix(e[3], e + 8, f->source) : e[3] != 0) continue;
-        uint32_t standing = e[2] * 4 + (e[1] < 4 ? strength[e[1]] : 0);
-        if (standing > best) best = standing;
+        uint64_t rank = (uint64_t)e[2] << 34 | (uint64_t)e[3] << 2 | (e[1] < 4 ? strength[e[1]] : 0);
+        if (rank > best) best = rank;
     }
     return list[best % 4];
 }
@@ -59,7 +59,7 @@ static void fill(uint32_t family) {
     }
     for (int i = 0; i < 128; i++) {
         uint32_t *e = entries + i * 12;
-        e[0] = family; e[1] = (uint32_t)i % 3 + 1;
+        e[0] = family; e[1] = i % 2 ? 1 + (uint32_t)i / 9 % 2 * 2 : 2;
         e[2] = family == 1 ? 24 + (uint32_t)i % 9 : 120 + (uint32_t)i % 9;
         e[3] = (uint32_t)i % 2 * 16;
         memcpy(e + 4, channels + (i * 2 % 256) * 11 + 3, 16);
@@ -67,25 +67,55 @@ static void fill(uint32_t family) {
     }
 }
 
+/* the same entries, each with the prefixes of this flow: all match it */
+static void match_all(const flow *f) {
+    for (int i = 0; i < 128; i++) {
+        memcpy(entries + i * 12 + 4, f->group, 16);
+        memcpy(entries + i * 12 + 8, f->source, 16);
+    }
+}
+
 static flow row(int i) { flow f; const uint32_t *r = channels + i * 11; f.family = (ancp_family)r[0]; f.sourced = r[1]; memcpy(f.group, r + 3, 16); memcpy(f.source, r + 7, 16); return f; }
 
+/* ends the program where a proved function and the C loop differ on one of the 256 flows */
+static void compare(void) {
+    for (int i = 0; i < 256; i++) {
+        flow f = row(i);
+        if (speed_channel(channels, 256, f) == c_channel(channels, 256, &f) && speed_list(entries, 128, f) == c_list(entries, 128, &f)) continue;
+        puts("differ");
+        exit(1);
+    }
+}
+
+enum { N = 200000 };
+static volatile uint32_t sink;
+
+static void measure_channel(const flow *f) {
+    double a = now(); for (int i = 0; i < N; i++) sink += speed_channel(channels, 256, *f);
+    double b = now(); for (int i = 0; i < N; i++) sink += c_channel(channels, 256, f);
+    double c = now();
+    printf("last of 256 channels %4.0f ns, C %4.0f ns", (b - a) / N, (c - b) / N);
+}
+
+static void measure_list(const char *what, const flow *f) {
+    double a = now(); for (int i = 0; i < N; i++) sink += speed_list(entries, 128, *f);
+    double b = now(); for (int i = 0; i < N; i++) sink += c_list(entries, 128, f);
+    double c = now();
+    printf("; 128 entries%s %4.0f ns, C %4.0f ns", what, (b - a) / N, (c - b) / N);
+}
+
 int main(void) {
-    enum { N = 200000 };
     for (uint32_t family = 1; family <= 2; family++) {
         fill(family);
-        for (int i = 0; i < 256; i++) {
-            flow f = row(i);
-            if (speed_channel(channels, 256, f) != c_channel(channels, 256, &f) || speed_list(entries, 128, f) != c_list(entries, 128, &f)) { puts("differ"); return 1; }
-        }
         flow f = row(255);
-        volatile uint32_t sink = 0;
-        double a = now(); for (int i = 0; i < N; i++) { f.source[3] ^= 0; sink += speed_channel(channels, 256, f); }
-        double b = now(); for (int i = 0; i < N; i++) sink += c_channel(channels, 256, &f);
-        double c = now(); for (int i = 0; i < N; i++) sink += speed_list(entries, 128, f);
-        double d = now(); for (int i = 0; i < N; i++) sink += c_list(entries, 128, &f);
-        double e = now();
-        (void)sink;
-        printf("IPv%d: last of 256 channels %4.0f ns, C %4.0f ns; 128 entries %4.0f ns, C %4.0f ns\n", family == 1 ? 4 : 6, (b - a) / N, (c - b) / N, (d - c) / N, (e - d) / N);
+        compare();
+        printf("IPv%d: ", family == 1 ? 4 : 6);
+        measure_channel(&f);
+        measure_list("", &f);
+        match_all(&f);
+        compare();
+        measure_list(", all matching", &f);
+        putchar('\n');
     }
     return 0;
 }

@@ -41,8 +41,8 @@ extern "C" {
 #endif
 
 /* ---- the version: what the library says is ancp_card_version(), and a start refuses another one */
-#define ANCP_VERSION "0.1.1"
-#define ANCP_VERSION_NUMBER 101u
+#define ANCP_VERSION "0.1.2"
+#define ANCP_VERSION_NUMBER 102u
 
 /* ---- what comes back from a call */
 typedef ANCP_ENUM(ancp_number) {
@@ -213,7 +213,9 @@ static inline ancp_number ancp_set_channel(ancp_tables *t, size_t k, const ancp_
     return ANCP_DONE;
 }
 
-/* prefix gives family, group and source; the lengths are in bits */
+/* prefix gives family, group and source; the lengths are in bits. Of the entries that match a flow those with the longest
+   group prefix decide, of these those with the longest source prefix, of these black before grey before white; the
+   order of the rows does not matter. */
 static inline ancp_number ancp_set_entry(ancp_tables *t, size_t i, ancp_list list, const ancp_flow *prefix,
                                          uint32_t group_bits, uint32_t source_bits) {
     uint32_t row[ANCP_ENTRY_ROW], bits;

@@ -22,7 +22,7 @@ use Rattle.channels.specs.Channels.{channelAt, rateAt, channelOf}
 use Rattle.circuits.specs.Circuits.{idLength, idAt}
 use Rattle.lists.specs.declared.Decision.the-variants.{White}
 use Rattle.lists.specs.Prefix.{bits, bitsOf, prefixMatches}
-use Rattle.lists.specs.Lists.{entryAt, entryMatches, matching, weightOf, longest, has, decision, listDecision}
+use Rattle.lists.specs.Lists.{entryAt, entryMatches, matching, longest, ofLength, withLongest, mostSpecific, has, byPriority, decision, listDecision}
 use Rattle.tables.specs.Tables.{idOk, channelOk, knownList, withinAddress, entryOk, tablesOk}
 use Rattle.card.specs.Cards.{Card, isPort}
 use Rattle.card.specs.Outcome.{Outcome}
@@ -81,7 +81,7 @@ module _ (cac : Bool) where
   first-rate = refl
 
   pub first-white : listDecision (small cac .entries) (small cac .entryCount) first ≡ White
-  unfolding listDecision decision has longest weightOf matching entryMatches entryAt prefixMatches bitsOf bits same every
+  unfolding listDecision decision byPriority has mostSpecific withLongest ofLength longest matching entryMatches entryAt prefixMatches bitsOf bits same every
   first-white = refl
 
   -- ---- the card at start

@@ -27,6 +27,7 @@ use Rattle.demand3.proofs.Each.{call-step, entered-delegation}
 use Rattle.demand3.proofs.Calls.{calls-agree}
 use Rattle.demand3.proofs.Requests.{DownClosed, down-closed}
 use Rattle.demand3.proofs.Closed.{closed-none, host-none, portdown-none, reduction-none}
+use Rattle.demand3.proofs.ListsLast.{lists-last}
 use Rattle.demand3.proofs.Zero.{zero-refused}
 
 -- with under 4 flows and a rate that fits there is room, with admission control and without
@@ -111,5 +112,6 @@ corollaries =
       closed-by-146 = λ t first s xs m space p kind port k r. reduction-none t (taken t first s) _ _ (after t first s xs) p m kind port space k r;
       delegation-kept = λ t first s xs x p port n k. delegation-kept t first s xs x p port n k;
       flows-answered = λ t first s xs m space p r two up k. flows-answered t first s xs m space p r two up k;
+      lists-last = lists-last;
       zero-refused = λ t card m space size header right zero k. zero-refused t card m size header space k zero right;
     }

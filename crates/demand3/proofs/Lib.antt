@@ -27,6 +27,7 @@ pub mod Counter
 pub mod Quiet
 pub mod Requests
 pub mod Closed
+pub mod ListsLast
 pub mod Zero
 pub mod Corollaries
 pub mod BuildsStart

@@ -12,6 +12,7 @@ use Rattle.writers.specs.Tlvs.{targetOf, statusOf}
 use Rattle.replies.specs.Replies.{replyHeader}
 use Rattle.flow_octets.specs.FlowOctets.{flowTlv}
 use Rattle.circuits.specs.Circuits.{idAt}
+use Rattle.lists.specs.Lists.{listDecision}
 use Rattle.rows.specs.declared.Found.the-variants.{At}
 use Rattle.card.specs.Cards.{Card}
 use Rattle.card.specs.Outcome.{writes}
@@ -80,6 +81,24 @@ RightResult m =
     ⊎ (((kindIn m ≡ 146) × (resultIn m ≡ 0))
     ⊎ (((kindIn m ≡ 148) ⊎ (kindIn m ≡ 149)) × (resultIn m ≡ 2)))
 
+-- the same tables but for the list entries
+abbrev pub withEntries : Tables → List ℕ → Tables
+withEntries t entries =
+    record {
+      ids = t .ids;
+      ports = t .ports;
+      channels = t .channels;
+      channelCount = t .channelCount;
+      entries = entries;
+      entryCount = t .entryCount;
+      whiteCac = t .whiteCac;
+      addCac = t .addCac;
+    }
+
+-- a join's numbers from before its lists are looked at: 13, 7, 6, 8, 9, 1; the others are 0 and 2 to 5
+abbrev pub BeforeLists : ℕ → Type 0
+BeforeLists n = (n ≡ 1) ⊎ (5 < n)
+
 pub record Corollaries : Type 0 where
   -- of every build that meets the claim, and so of ours
   pub first-four : (b : Build) → Claim b → (t : Tables) (first : ℕ) → b .start t first .number ≡ 0 → (xs ys : List Call) (p : ℕ)
@@ -111,3 +130,8 @@ pub record Corollaries : Type 0 where
   -- Generic Response, Failure 0x2, whose Status-Info names its type and encloses nothing
   pub zero-refused : (t : Tables) (card : Card) (m : List ℕ) (space : ℕ) → sizeOk m ≡ true → usable m ≡ true → RightResult m → transactionIn m ≡ 0
       → 4608 ≤ space → outcomeOf t card (message m space) ≡ writes card (messageOf (replyHeader (headerIn m) 91 4 0x2) (statusOf (kindIn m) []))
+  -- only a join looks at the list entries, after every refusal but 3, 2, 5 and 4, and of them only at what they decide for its flow, on any card
+  pub lists-last : (t : Tables) (card : Card) (x : Call) (entries : List ℕ)
+      → ((p : ℕ) (f : Flow) (space : ℕ) → x ≡ join p f space → BeforeLists (outcomeOf t card x .number)
+      ⊎ (listDecision entries (card .head .«entry_count») f ≡ listDecision (t .entries) (card .head .«entry_count») f))
+      → outcomeOf (withEntries t entries) card x ≡ outcomeOf t card x

@@ -317,13 +317,13 @@ pub extern "C" fn ancp_numbers_left(number: u32, limit: u32) -> u32
     numbers::numbers_left(number, limit)
 }
 
-// ---- the version of this library, which the header compares with its own at a start: 101 for 0.1.1
+// ---- the version of this library, which the header compares with its own at a start: 102 for 0.1.2
 
-pub const VERSION: u32 = 101;
+pub const VERSION: u32 = 102;
 
 #[no_mangle]
 pub extern "C" fn ancp_card_version() -> u32
-    ensures { λ r. ⌜ r ≡ 101 ⌝ }
+    ensures { λ r. ⌜ r ≡ 102 ⌝ }
 {
     VERSION
 }

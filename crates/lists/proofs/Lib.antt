@@ -1,2 +1,3 @@
 pub mod Prefix
-pub mod Standing
+pub mod Ranks
+pub mod Sources

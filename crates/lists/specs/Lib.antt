@@ -1,3 +1,4 @@
 pub mod Prefix
 pub mod Lists
-pub mod Standing
+pub mod Ranks
+pub mod Sources

@@ -38,26 +38,47 @@ unfoldable pub matching : List ℕ → Flow → ℕ → List Entry
 matching t f zero = []
 matching t f (suc n) = cond (entryMatches (entryAt t n) f) (entryAt t n ∷ matching t f n) (matching t f n)
 
--- what an entry decides by before its list does: the length of its group prefix
-unfoldable pub weightOf : Entry → ℕ
-weightOf e = e .«group_length»
+-- ---- which of them decide
 
--- the longest group prefix of some entries
-unfoldable pub longest : List Entry → ℕ
-longest [] = 0
-longest (e ∷ es) = max (weightOf e) (longest es)
+-- the length of an entry's group prefix, and of its source prefix
+abbrev pub groupLength : Entry → ℕ
+groupLength e = e .«group_length»
 
--- one of the entries has this weight and is of this list
-unfoldable pub has : ℕ → ℕ → List Entry → Bool
-has w list [] = false
-has w list (e ∷ es) = eqb (weightOf e) w && eqb (e .list) list || has w list es
+abbrev pub sourceLength : Entry → ℕ
+sourceLength e = e .«source_length»
 
--- The entry with the longest group prefix decides; on a tie black (2) goes before grey (3), grey before white (1).
+-- the longest of some entries' prefixes
+unfoldable pub longest : (Entry → ℕ) → List Entry → ℕ
+longest length [] = 0
+longest length (e ∷ es) = max (length e) (longest length es)
+
+-- those of the entries whose prefix has n bits
+unfoldable pub ofLength : (Entry → ℕ) → ℕ → List Entry → List Entry
+ofLength length n [] = []
+ofLength length n (e ∷ es) = cond (eqb (length e) n) (e ∷ ofLength length n es) (ofLength length n es)
+
+-- those whose prefix is the longest
+unfoldable pub withLongest : (Entry → ℕ) → List Entry → List Entry
+withLongest length es = ofLength length (longest length es) es
+
+-- The most specific: those with the longest group prefix, and of these those with the longest source prefix.
+unfoldable pub mostSpecific : List Entry → List Entry
+mostSpecific es = withLongest sourceLength (withLongest groupLength es)
+
+-- ---- what they decide
+
+-- one of the entries is of this list
+unfoldable pub has : ℕ → List Entry → Bool
+has list [] = false
+has list (e ∷ es) = eqb (e .list) list || has list es
+
+-- black (2) goes before grey (3), grey before white (1)
+unfoldable pub byPriority : List Entry → Decision
+byPriority es = cond (has 2 es) Black (cond (has 3 es) Grey (cond (has 1 es) White None))
+
+-- Of some matching entries the most specific decide.
 unfoldable pub decision : List Entry → Decision
-decision es =
-    cond (has (longest es) 2 es) Black
-    (cond (has (longest es) 3 es) Grey
-    (cond (has (longest es) 1 es) White None))
+decision es = byPriority (mostSpecific es)
 
 -- what n entries decide; the table has 128 rows
 unfoldable pub listDecision : List ℕ → ℕ → Flow → Decision

@@ -5,8 +5,9 @@ ghost use mathlib.Core.List.{[], _∷_};
 ghost use Prim.Native.Nat.{_≤_, _<_};
 ghost use Rattle.flows.specs.Words.{addressAt};
 ghost use Rattle.lists.specs.Prefix.{prefixMatches};
-ghost use Rattle.lists.specs.Lists.{entryAt, entryMatches, weightOf, listDecision};
-ghost use Rattle.lists.specs.Standing.{strengthOf, standingOf, decisionOf};
+ghost use Rattle.lists.specs.Lists.{entryAt, entryMatches, listDecision};
+ghost use Rattle.lists.specs.Ranks.{strengthOf, rankOf, isAbove, decisionOf};
+ghost use Rattle.lists.specs.Sources.{Sources};
 use flows::Flow;
 use rows::at_most;
 
@@ -24,6 +25,13 @@ pub struct Entry {
     pub source_length: u32,
     pub group: [u32; 4],
     pub source: [u32; 4],
+}
+
+// What an entry is compared by: its prefix lengths, and how strong its list is.
+struct Rank {
+    group_length: u32,
+    source_length: u32,
+    strength: u32,
 }
 
 // What the lists say of a flow; None where no entry matches.
@@ -110,45 +118,55 @@ fn row_matches(entries: &[u32; 1536], i: usize, f: Flow) -> bool
 
 // ---- the decision
 
-// The matching entry that stands highest decides. Most entries do not match, so that is tried first.
+// The matching entry of the highest rank decides. Most entries do not match, so that is tried first.
 pub fn list_decision(entries: &[u32; 1536], n: usize, f: Flow) -> Decision
     ensures { λ r. ⌜ r ≡ listDecision (now (entries .entry)) n f ⌝ }
 {
     let rows = at_most(n, 128);
-    let mut best: u64 = 0;
+    let mut best = Rank {
+        group_length: 0,
+        source_length: 0,
+        strength: 0,
+    };
     let mut i: usize = 0;
     while i < rows {
         if row_matches(entries, i, f) {
-            let e = entry_at(entries, i);
-            let s = standing_of(e);
-            if best < s {
-                best = s;
+            let r = rank_of(entry_at(entries, i));
+            if is_above(r, best) {
+                best = r;
             }
         }
         i += 1;
     }
-    decision_of(best)
+    decision_of(best.strength)
 }
 
-// By weight, and on a tie by list.
-fn standing_of(e: Entry) -> u64
-    ensures { λ r. ⌜ r ≡ standingOf e ⌝ }
+fn rank_of(e: Entry) -> Rank
+    ensures { λ r. ⌜ r ≡ rankOf e ⌝ }
 {
-    weight_of(e) * 4 + strength_of(e.list)
+    Rank {
+        group_length: e.group_length,
+        source_length: e.source_length,
+        strength: strength_of(e.list),
+    }
 }
 
-// What decides before the list does: the length of the group prefix. The bound leaves room for the strength beside it.
-fn weight_of(e: Entry) -> u64
-    ensures { λ r. ⌜ r ≡ weightOf e ⌝ }
-    ensures { λ r. ⌜ r < 1099511627776 ⌝ }
+// The longer group prefix goes first; of equal ones the longer source prefix; of equal ones the stronger list.
+fn is_above(a: Rank, b: Rank) -> bool
+    ensures { λ r. ⌜ r ≡ isAbove a b ⌝ }
 {
-    wide(e.group_length)
+    if a.group_length != b.group_length {
+        return b.group_length < a.group_length;
+    }
+    if a.source_length != b.source_length {
+        return b.source_length < a.source_length;
+    }
+    b.strength < a.strength
 }
 
 // Black goes before grey, grey before white.
-fn strength_of(list: u32) -> u64
+fn strength_of(list: u32) -> u32
     ensures { λ r. ⌜ r ≡ strengthOf list ⌝ }
-    ensures { λ r. ⌜ r < 4 ⌝ }
 {
     match list {
         BLACK => 3,
@@ -158,10 +176,12 @@ fn strength_of(list: u32) -> u64
     }
 }
 
-fn decision_of(standing: u64) -> Decision
-    ensures { λ r. ⌜ r ≡ decisionOf standing ⌝ }
+// What a strength decides. Owed here too: where the source prefixes do not decide.
+fn decision_of(strength: u32) -> Decision
+    ensures { λ r. ⌜ r ≡ decisionOf strength ⌝ }
+    ensures { λ r. ⌜ Sources ⌝ }
 {
-    match standing % 4 {
+    match strength {
         3 => Decision::Black,
         2 => Decision::Grey,
         1 => Decision::White,

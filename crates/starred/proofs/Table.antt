@@ -16,7 +16,7 @@ use Rattle.flows.specs.Flows.{sameFlow, knownFamily, width, inWidth, isGroup, g
 use Rattle.rows.specs.Rows as places
 use Rattle.channels.specs.Channels.{channelAt, rateAt, channelOf}
 use Rattle.lists.specs.Prefix.{bits, bitsOf, prefixMatches}
-use Rattle.lists.specs.Lists.{entryAt, entryMatches, matching, weightOf, longest, has, decision, listDecision}
+use Rattle.lists.specs.Lists.{entryAt, entryMatches, matching, longest, ofLength, withLongest, mostSpecific, has, byPriority, decision, listDecision}
 use Rattle.circuits.specs.Circuits.{idLength, idAt, portOf}
 use Rattle.tables.specs.Tables.{idOk, channelOk, knownList, withinAddress, entryOk, tablesOk}
 use Rattle.sums.specs.Sums.{sumTo, mapTo}
@@ -46,7 +46,7 @@ unfolding flatMap every mapTo sumTo
     sizeOk usable headerIn headIn firstTlv foldBy foldUpTo foldTlvs insideOf heldOk insideOk allTlvs listOk
     items.itemsOf items.ofType items.countOf items.firstOf requestIn lengthOk tlvsIn amountIn
     same zeros sameFlow knownFamily width inWidth isGroup goodGroup goodSource goodFlow channelAt rateAt channelOf
-    bits bitsOf prefixMatches entryAt entryMatches matching weightOf longest has decision listDecision idLength idAt portOf
+    bits bitsOf prefixMatches entryAt entryMatches matching longest ofLength withLongest mostSpecific has byPriority decision listDecision idLength idAt portOf
     idOk channelOk knownList withinAddress entryOk tablesOk firstOk startOf startedOf
     isPort delegationOf committedAt activeRow activeAt sumOver freeIn roomIn began mayAsk
     outcomeOf fits admitNumber whiteOf byList joinRow joinOf askedOf askOf

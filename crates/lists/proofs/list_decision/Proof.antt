@@ -2,10 +2,10 @@ use Prim.Native.Nat.{ℕ, _≤_, _-_, min}
 use mathlib.Core.Path.{_≡_, refl, sym, ap, _∙_}
 use mathlib.Core.Logic.{⊎-elim}
 use native.Mathlib.Omega.{arith}
-use Rattle.lists.specs.Lists.{entryAt, entryMatches, matching, listDecision}
-use Rattle.lists.specs.declared.Entry.{Entry}
-use Rattle.lists.specs.Standing.{standingOf, highest, decisionOf}
-use Rattle.lists.proofs.Standing.{decision-is, turn-raise, turn-other, turn-low}
+use Rattle.lists.specs.Lists.{matching, listDecision}
+use Rattle.lists.specs.declared.Rank.{Rank}
+use Rattle.lists.specs.Ranks.{highest, decisionOf}
+use Rattle.lists.proofs.Ranks.{decision-is, turn-other, turn-raise, turn-low}
 use borrow.Author.Needs.{needs}
 use Rattle.lists.proofs.list_decision.Statement.{statement}
 use Rattle.lists.proofs.list_decision.Tie as tie
@@ -25,14 +25,13 @@ loop-again c =
     let h = c .before .before .before .loop in
     let a = c .before .before .before .before .before .args in
     let m = c .before .row-matches in
-    let t = a .entries .now in
-    let e = entryAt t (h .i) in (
+    let t = a .entries .now in (
       omega arith,
       ⊎-elim
-          (λ w. w .4 ∙ turn-raise t (a .f) (h .i) (w .1 .result) (w .2 .result) (h .best) (w .1 .ensures) (w .2 .ensures) (h .inv .1) (w .3 .taken) (ap (λ (x : Entry). entryMatches x (a .f)) (w .1 .ensures) ∙ sym (m .ensures) ∙ w .0 .taken))
+          (λ w. w .5 ∙ turn-raise t (a .f) (h .i) (h .best) (h .inv .1) (sym (m .ensures) ∙ w .0 .taken) (w .1 .result) (w .2 .result) (w .1 .ensures) (w .2 .ensures) (sym (w .3 .ensures) ∙ w .4 .taken))
           (⊎-elim
-          (λ w. w .4 ∙ turn-low t (a .f) (h .i) (w .1 .result) (w .2 .result) (h .best) (w .1 .ensures) (w .2 .ensures) (h .inv .1) (w .3 .left))
-          (λ w. w .1 ∙ turn-other t (a .f) (h .i) e (standingOf e) (h .best) refl refl (h .inv .1) (sym (m .ensures) ∙ w .0 .left)))
+          (λ w. w .5 ∙ turn-low t (a .f) (h .i) (h .best) (h .inv .1) (sym (m .ensures) ∙ w .0 .taken) (w .1 .result) (w .2 .result) (w .1 .ensures) (w .2 .ensures) (sym (w .3 .ensures) ∙ w .4 .left))
+          (λ w. w .1 ∙ turn-other t (a .f) (h .i) (h .best) (h .inv .1) (sym (m .ensures) ∙ w .0 .left)))
           (c .if1 .came),
     )
 
@@ -43,7 +42,7 @@ returns c =
     let a = c .before .before .before .before .args in
     let e : h .i ≡ min (a .n) 128 = omega (arith, c .before .before .before .at-most .ensures) in
     let t = a .entries .now in
-    c .decision-of .ensures ∙ ap decisionOf (h .inv .1 ∙ ap (λ (k : ℕ). highest (matching t (a .f) k)) e) ∙ decision-is (matching t (a .f) (min (a .n) 128))
+    c .decision-of .ensures .0 ∙ ap (λ (r : Rank). decisionOf (r .strength)) (h .inv .1 ∙ ap (λ (k : ℕ). highest (matching t (a .f) k)) e) ∙ decision-is (matching t (a .f) (min (a .n) 128))
 
 pub list-decision-spec : {M : Type 1} → statement M
 list-decision-spec =
@@ -53,6 +52,7 @@ list-decision-spec =
     μ-loop
     (λ c κs. search needs)
     loop-holds
+    (λ c κs. search needs)
     (λ c κs. search needs)
     (λ c κs. search needs)
     (λ c κs. search needs)
