@@ -1,6 +1,7 @@
 //! White, black and grey lists.
 use crate::flow::{family, Flow};
 use crate::host::HostEntry;
+use std::cmp::Reverse;
 use std::net::IpAddr;
 
 /// The order is the one that decides a tie: the smallest goes first.
@@ -13,17 +14,17 @@ pub enum List {
 
 #[derive(Clone, Debug)]
 pub struct Entry {
-    family: u32,
-    list: List,
-    group: Prefix,
-    source: Prefix,
+    pub(crate) family: u32,
+    pub(crate) list: List,
+    pub(crate) group: Prefix,
+    pub(crate) source: Prefix,
 }
 
 /// An address's bits, left-aligned, and how many of them count.
 #[derive(Clone, Debug)]
-struct Prefix {
+pub(crate) struct Prefix {
     bits: u128,
-    length: u32,
+    pub length: u32,
 }
 
 impl Prefix {
@@ -51,7 +52,11 @@ impl Entry {
     }
 
     fn matches(&self, flow: &Flow) -> bool {
-        self.family == family(flow.group) && self.group.holds(flow.group) && self.matches_source(flow.source)
+        self.matches_group(flow.group) && self.matches_source(flow.source)
+    }
+
+    pub(crate) fn matches_group(&self, group: IpAddr) -> bool {
+        self.family == family(group) && self.group.holds(group)
     }
 
     fn matches_source(&self, source: Option<IpAddr>) -> bool {
@@ -62,10 +67,15 @@ impl Entry {
     }
 }
 
-/// The list of the matching entry with the longest group prefix; on a tie black, grey, white.
+/// The entries that match the flow, in the order of their rows.
+pub(crate) fn matching<'a>(entries: &'a [Entry], flow: &'a Flow) -> impl Iterator<Item = &'a Entry> {
+    entries.iter().filter(|e| e.matches(flow))
+}
+
+/// Of the matching entries those with the longest group prefix, of these those with the longest source prefix; of these
+/// black goes before grey, grey before white.
 pub fn decide(entries: &[Entry], flow: &Flow) -> Option<List> {
-    let matching = entries.iter().filter(|e| e.matches(flow));
-    matching.max_by_key(|e| (e.group.length, std::cmp::Reverse(e.list))).map(|e| e.list)
+    matching(entries, flow).max_by_key(|e| (e.group.length, e.source.length, Reverse(e.list))).map(|e| e.list)
 }
 
 fn list(number: u32) -> Option<List> {
