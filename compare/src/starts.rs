@@ -19,7 +19,7 @@ pub fn valid(rng: &mut Rng) -> Start {
     Start {
         ids: ids(rng, ports),
         ports,
-        entries: entries(rng, entry_count, &channels),
+        entries: entries(rng, entry_count, &channels, channel_count),
         channels,
         channel_count,
         entry_count,
@@ -153,28 +153,99 @@ fn source_v6(rng: &mut Rng) -> [u32; 4] {
     }
 }
 
-fn entries(rng: &mut Rng, count: usize, channels: &[HostChannel]) -> Vec<HostEntry> {
+fn entries(rng: &mut Rng, count: usize, channels: &[HostChannel], channel_count: usize) -> Vec<HostEntry> {
     let mut rows: Vec<HostEntry> = (0..MAX_ENTRIES).map(|_| entry(rng, channels)).collect();
     if rng.chance(80) {
         for (i, row) in rows.iter_mut().take(count.min(2)).enumerate() {
             *row = HostEntry { family: 1 + i as u32, list: 1, group_bits: rng.below(9) as u32, source_bits: 0, ..*row };
         }
     }
+    let from = if count < 4 { 0 } else { 2 };
+    for _ in 0..rng.from_to(0, 4 + count / 4) {
+        let flow = channels[rng.below(channel_count.clamp(1, 20))].flow;
+        contend(rng, &mut rows[from..count], flow);
+    }
     rows
 }
 
 fn entry(rng: &mut Rng, channels: &[HostChannel]) -> HostEntry {
     let flow = channels[rng.below(channels.len().min(40))].flow;
-    let width = if flow.family == 1 { 32 } else { 128 };
+    let width = width(flow.family);
     let group_bits = bits(rng, width);
     let source_bits = if rng.chance(60) { 0 } else { bits(rng, width) };
+    let list = rng.pick(&[1, 1, 1, 2, 3]);
+    entry_of(rng, &flow, list, (group_bits, source_bits), 15)
+}
+
+fn entry_of(rng: &mut Rng, flow: &HostFlow, list: u32, (group_bits, source_bits): (u32, u32), inside: usize) -> HostEntry {
     HostEntry {
         family: flow.family,
-        list: rng.pick(&[1, 1, 1, 2, 3]),
+        list,
         group_bits,
         source_bits,
-        group: beyond(rng, flow.group, group_bits),
-        source: beyond(rng, flow.source, source_bits),
+        group: beyond(rng, flow.group, group_bits, inside),
+        source: beyond(rng, flow.source, source_bits, inside),
+    }
+}
+
+fn width(family: u32) -> u32 {
+    if family == 1 {
+        32
+    } else {
+        128
+    }
+}
+
+/// Two or three entries of different lists for the flow, in rows next to each other. If it has no source, those with a
+/// source prefix are for other flows of its group, or there are none.
+fn contend(rng: &mut Rng, rows: &mut [HostEntry], mut flow: HostFlow) {
+    let width = width(flow.family);
+    let mut lengths = lengths(rng, width);
+    if flow.sourced == 0 {
+        flow.source = if width == 32 { source_v4(rng) } else { source_v6(rng) };
+        if rng.chance(50) {
+            lengths.iter_mut().for_each(|(_, source)| *source = 0);
+        }
+    }
+    let lists = rng.pick(&[[1, 2, 3], [1, 3, 2], [2, 1, 3], [2, 3, 1], [3, 1, 2], [3, 2, 1]]);
+    let at = rng.below(rows.len().max(1));
+    for (i, (list, lengths)) in lists.into_iter().zip(lengths).take(rows.len()).enumerate() {
+        rows[(at + i) % rows.len()] = entry_of(rng, &flow, list, lengths, 4);
+    }
+}
+
+/// Lengths of group and source prefix that rules weigh differently, in any order.
+fn lengths(rng: &mut Rng, width: u32) -> Vec<(u32, u32)> {
+    let group = if rng.chance(50) { width } else { bits(rng, width) };
+    let (source, other) = (source_bits(rng, width), source_bits(rng, width));
+    let fewer = group.min(rng.from_to(1, 8) as u32);
+    let moved = fewer.min(width - source);
+    let mut lengths = match rng.below(10) {
+        0..=1 => vec![(group, source), (group, other)],
+        2 => vec![(group, 1), (group, 0)],
+        3 => vec![(group, width), (group, width - 1)],
+        4 => vec![(group, source), (group, source)],
+        5 => vec![(group - fewer, source.max(other)), (group, source.min(other))],
+        6..=7 => vec![(group - moved, source + moved), (group, source)],
+        _ => vec![(group.saturating_sub(1), width), (group, 0)],
+    };
+    if rng.chance(30) {
+        lengths.push((group - rng.pick(&[0, fewer]), source_bits(rng, width)));
+    }
+    if rng.chance(50) {
+        lengths.reverse();
+    }
+    lengths
+}
+
+fn source_bits(rng: &mut Rng, width: u32) -> u32 {
+    match rng.below(6) {
+        0 => 0,
+        1 => 1,
+        2 => width - 1,
+        3 => width,
+        4 => rng.from_to(0, width as usize) as u32,
+        _ => width - rng.below(9) as u32,
     }
 }
 
@@ -188,15 +259,18 @@ fn bits(rng: &mut Rng, width: u32) -> u32 {
     }
 }
 
-/// Changes bits beyond the prefix, which do not count, and now and then one inside it.
-fn beyond(rng: &mut Rng, mut words: [u32; 4], bits: u32) -> [u32; 4] {
+/// Changes bits beyond the prefix, which do not count, and with a chance of so many percent the last one inside it, or one
+/// of the first word.
+fn beyond(rng: &mut Rng, mut words: [u32; 4], bits: u32, inside: usize) -> [u32; 4] {
+    let mut change = |bit: usize| words[bit / 32] ^= 1 << (31 - bit % 32);
     for _ in 0..rng.below(4) {
-        let bit = rng.from_to((bits as usize).min(127), 127);
-        words[bit / 32] ^= 1 << (31 - bit % 32);
+        if bits < 128 {
+            change(rng.from_to(bits as usize, 127));
+        }
     }
-    if rng.chance(15) {
-        let bit = rng.below(32);
-        words[0] ^= 1 << bit;
+    if rng.chance(inside) {
+        let last = bits.max(1) as usize - 1;
+        change(if rng.chance(50) { rng.below(32) } else { last });
     }
     words
 }
@@ -230,7 +304,7 @@ fn damage_row<T>(rng: &mut Rng, count: usize, rows: &mut [T], with: impl Fn(&mut
 }
 
 fn damage_bits(rng: &mut Rng, row: &mut HostEntry) {
-    let width = if row.family == 1 { 32 } else { 128 };
+    let width = width(row.family);
     let bits = rng.pick(&[width, width + 1, 129, 33, u32::MAX]);
     match rng.chance(50) {
         true => row.group_bits = bits,
