@@ -51,7 +51,7 @@ pub struct Card {
     pub(crate) ports: Vec<Port>,
     /// Each channel's rate. Copies of a card share what the start fixed.
     pub(crate) channels: Rc<BTreeMap<Flow, u32>>,
-    entries: Rc<[Entry]>,
+    pub(crate) entries: Rc<[Entry]>,
     white_cac: bool,
     pub(crate) add_cac: bool,
     next: u32,

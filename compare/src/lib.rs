@@ -12,6 +12,7 @@ pub mod proved;
 pub mod replication;
 pub mod reply;
 pub mod rng;
+pub mod sources;
 pub mod starts;
 pub mod tlv;
 pub mod zeros;

@@ -4,6 +4,7 @@ use compare::host::{HostFlow, Start};
 use compare::messages::set_lengths;
 use compare::pair::{self, hex, Pair, Seen};
 use compare::rng::Rng;
+use compare::sources::Sources;
 use compare::starts;
 use compare::zeros::{self, Zeros};
 use std::collections::BTreeMap;
@@ -32,6 +33,7 @@ struct Counts {
     /// By type, Result and code of the reply.
     replies: BTreeMap<(u8, u8, u16), usize>,
     zeros: Zeros,
+    sources: Sources,
 }
 
 impl Counts {
@@ -104,6 +106,7 @@ fn run_calls(rng: &mut Rng, start: &Start, mut pair: Pair, counts: &mut Counts) 
         done.push(call);
         let seen = perform(&mut pair, &done, i + 1 == length).map_err(|what| difference(start, &done, what))?;
         counts.seen(&seen);
+        counts.sources.seen(&pair.card, &done[i], &seen);
         if let Some(zero) = zero {
             counts.zeros.seen(&zero, &seen);
         }
@@ -271,7 +274,7 @@ fn report(counts: &Counts, seed: u64) -> ExitCode {
     println!("{} calls in {} lists, seed {seed}; most extras {}", counts.calls, counts.lists, counts.most_extras);
     let mut missing = Vec::new();
     let mut line = |what: String, count: usize| {
-        println!("{what:<28} {count:>9}");
+        println!("{what:<33} {count:>9}");
         if count == 0 {
             missing.push(what);
         }
@@ -289,7 +292,7 @@ fn report(counts: &Counts, seed: u64) -> ExitCode {
     line("147 Failure, code 0x0".into(), counts.reply(147, 4, 0));
     line("148 Success".into(), counts.reply(148, 3, 0));
     line("149 Success".into(), counts.reply(149, 3, 0));
-    for (what, count) in counts.zeros.lines() {
+    for (what, count) in counts.zeros.lines().into_iter().chain(counts.sources.lines()) {
         line(what, count);
     }
     if missing.is_empty() {
