@@ -6,7 +6,8 @@
      m, s  a message; s with a reply buffer of 4,607 octets
      f     a message, with zeros behind it up to the length that its header gives
      u, x  port up, port down: port (1 octet)
-     j, l  join, leave: port, row of the channel (1 octet each)
+     j, l  join, leave: port, row of the flow (1 octet each)
+     t     a join with a reply buffer of 4,607 octets
      d     set delegation: port, amount (4 octets)
      a     ask: port, required, preferred (4 octets each)
      p     port (1 octet): the answer is the port as ancp_card_port_text writes it
@@ -14,8 +15,9 @@
 
    Each table begins with S0: ports 0, 1, 2 are p1, p2, p3, all up, with delegation 4000. Channels: row 0 is A,
    239.1.1.1, rate 1000; rows 1 to 4 are B1 to B4, 239.1.1.2 from 192.0.2.1 to 192.0.2.4, rates 1000, 500, 1500, 1; row
-   5 is V, ff3e::1 from 2001:db8::1, rate 2000. All are white; both switches are on; the first transaction number is
-   1. */
+   5 is V, ff3e::1 from 2001:db8::1, rate 2000. Flows that are no channels: row 6 is 239.1.1.2 from 192.0.2.5, and row 7
+   is bad, 239.1.1.2 from itself. All are white; both switches are on; the first transaction number is 1. A table with
+   lists of its own has S0 with these lists, and is played with their rows in both orders. */
 #include "test.h"
 #include <stdio.h>
 #include <stdlib.h>
@@ -54,29 +56,56 @@ ancp_tables tables;
 ancp_card card;
 uint8_t reply[ANCP_REPLY + 64];
 size_t length;
-enum { ROWS = 6 };
-static ancp_flow channels[ROWS];
+enum { ROWS = 6, FLOWS = 8, ENTRIES = 4 };
+static ancp_flow flows[FLOWS];
+
+/* a list entry; without a group it is none */
+typedef struct {
+    ancp_list list;
+    const char *group;
+    uint32_t group_bits;
+    const char *source;
+    uint32_t source_bits;
+} entry;
+#define WHITE ANCP_LIST_WHITE
+#define BLACK ANCP_LIST_BLACK
+#define GREY ANCP_LIST_GREY
+#define ANY NULL, 0 /* source */
+
+static const entry all_white[ENTRIES] = {{WHITE, "239.1.1.1", 0, ANY}, {WHITE, "ff3e::1", 0, ANY}};
 
 static void fill_channels(void) {
-    static const char *const address[ROWS][2] = {
+    static const char *const address[FLOWS][2] = {
         {"239.1.1.1", NULL},        {"239.1.1.2", "192.0.2.1"}, {"239.1.1.2", "192.0.2.2"},
         {"239.1.1.2", "192.0.2.3"}, {"239.1.1.2", "192.0.2.4"}, {"ff3e::1", "2001:db8::1"},
+        {"239.1.1.2", "192.0.2.5"}, {"239.1.1.2", "239.1.1.2"},
     };
     static const uint32_t rates[ROWS] = {1000, 1000, 500, 1500, 1, 2000};
-    for (size_t k = 0; k < ROWS; k++) {
-        IS(ancp_flow_from_text(&channels[k], address[k][0], address[k][1]), ANCP_DONE);
-        IS(ancp_set_channel(&tables, k, &channels[k], rates[k]), ANCP_DONE);
-    }
+    for (size_t k = 0; k < FLOWS; k++) IS(ancp_flow_from_text(&flows[k], address[k][0], address[k][1]), ANCP_DONE);
+    for (size_t k = 0; k < ROWS; k++) IS(ancp_set_channel(&tables, k, &flows[k], rates[k]), ANCP_DONE);
 }
 
-static void start_s0(void) {
+/* how many entries there are; backwards, the last one has row 0 */
+static size_t fill_entries(const entry *list, bool backwards) {
+    size_t count = 0;
+    while (count < ENTRIES && list[count].group) count++;
+    for (size_t i = 0; i < count; i++) {
+        const entry *e = &list[backwards ? count - 1 - i : i];
+        ancp_flow prefix;
+        IS(ancp_flow_from_text(&prefix, e->group, e->source), ANCP_DONE);
+        IS(ancp_set_entry(&tables, i, e->list, &prefix, e->group_bits, e->source_bits), ANCP_DONE);
+    }
+    return count;
+}
+
+static void start_s0(const entry *list, bool backwards) {
     static const char *const ids[] = {"p1", "p2", "p3"};
+    size_t entries;
     memset(&tables, 0, sizeof tables);
     fill_channels();
     for (size_t p = 0; p < 3; p++) IS(ancp_set_port(&tables, p, ids[p], 2), ANCP_DONE);
-    IS(ancp_set_entry(&tables, 0, ANCP_LIST_WHITE, &channels[0], 0, 0), ANCP_DONE);
-    IS(ancp_set_entry(&tables, 1, ANCP_LIST_WHITE, &channels[5], 0, 0), ANCP_DONE);
-    IS(ancp_card_start(&card, &tables, 3, ROWS, 2, true, true, 1), ANCP_DONE);
+    entries = fill_entries(list, backwards);
+    IS(ancp_card_start(&card, &tables, 3, ROWS, entries, true, true, 1), ANCP_DONE);
     for (size_t p = 0; p < 3; p++) {
         IS(ancp_card_port_up(&card, &tables, p), ANCP_DONE);
         IS(ancp_card_set_delegation(&card, &tables, p, 4000), ANCP_DONE);
@@ -118,21 +147,26 @@ static ancp_number message(size_t n, size_t room) {
     return ancp_card_message(&card, &tables, given, n, reply, room, &length);
 }
 
-static const ancp_flow *channel(void) {
-    written_right(given[1] < ROWS);
-    return &channels[given[1] < ROWS ? given[1] : 0];
+static const ancp_flow *flow(void) {
+    written_right(given[1] < FLOWS);
+    return &flows[given[1] < FLOWS ? given[1] : 0];
+}
+
+static ancp_number join(size_t room) {
+    return ancp_card_join(&card, &tables, given[0], flow(), reply, room, &length);
 }
 
 static ancp_number call_of(char verb, size_t n) {
-    written_right(verb && strchr("msfuxjlda", verb));
+    written_right(verb && strchr("msfuxjtlda", verb));
     switch (verb) {
         case 'm': return message(n, ROOM);
         case 's': return message(n, ROOM - 1);
         case 'f': return message(4 + (word(0) & 0xFFFF), ROOM);
         case 'u': return ancp_card_port_up(&card, &tables, given[0]);
         case 'x': return ancp_card_port_down(&card, &tables, given[0]);
-        case 'j': return ancp_card_join(&card, &tables, given[0], channel(), reply, ROOM, &length);
-        case 'l': return ancp_card_leave(&card, &tables, given[0], channel());
+        case 'j': return join(ROOM);
+        case 't': return join(ROOM - 1);
+        case 'l': return ancp_card_leave(&card, &tables, given[0], flow());
         case 'd': return ancp_card_set_delegation(&card, &tables, given[0], word(1));
         default: return ancp_card_ask(&card, &tables, given[0], word(1), word(5), reply, ROOM, &length);
     }
@@ -145,7 +179,7 @@ static const char *answer_of(const char *call) {
         ancp_card_port_text(out, sizeof out, &card, &tables, given[0]);
         return out;
     }
-    if (strchr("msfja", call[0])) length = SIZE_MAX; /* the call sets it */
+    if (strchr("msfjta", call[0])) length = SIZE_MAX; /* the call sets it */
     ancp_number number = call_of(call[0], n);
     HOLDS(length <= ROOM);
     at = (size_t)sprintf(out, length ? "%u " : "%u", (unsigned)number);
@@ -153,33 +187,37 @@ static const char *answer_of(const char *call) {
     return out;
 }
 
-static void play(const char *name, const step *steps, size_t count) {
+static void try_step(const step *s) {
     static ancp_card before;
+    size_t beyond;
+    now = s->what;
+    before = card;
+    length = 0;
+    memset(reply, 0xA5, sizeof reply);
+    TEXT(answer_of(s->call), s->answer);
+    for (beyond = length; beyond < sizeof reply && reply[beyond] == 0xA5;) beyond++;
+    IS(beyond, sizeof reply);
+    IS(memcmp(&card, &before, sizeof card) ? MOVED : KEPT, s->card);
+}
+
+static void play(const char *name, const entry *list, bool backwards, const step *steps, size_t count) {
     request = name;
     now = "start";
-    start_s0();
-    for (size_t i = 0; i < count; i++) {
-        const char *answer;
-        size_t beyond;
-        now = steps[i].what;
-        before = card;
-        length = 0;
-        memset(reply, 0xA5, sizeof reply);
-        answer = answer_of(steps[i].call);
-        TEXT(answer, steps[i].answer);
-        for (beyond = length; beyond < sizeof reply && reply[beyond] == 0xA5;) beyond++;
-        IS(beyond, sizeof reply);
-        IS(memcmp(&card, &before, sizeof card) ? MOVED : KEPT, steps[i].card);
-    }
+    start_s0(list, backwards);
+    for (size_t i = 0; i < count; i++) try_step(&steps[i]);
 }
 
 /* ---- what messages are made of */
 #define P1 "100000080001000270310000" /* Target */
 #define P2 "100000080001000270320000"
+#define P3 "100000080001000270330000"
 #define P9 "100000080001000270390000" /* no port's */
 #define A "0019000801010000EF010101" /* Multicast-Flow */
 #define B1 "0019000C02010001EF010102C0000201"
 #define B2 "0019000C02010001EF010102C0000202"
+#define B3 "0019000C02010001EF010102C0000203"
+#define B4 "0019000C02010001EF010102C0000204"
+#define V "0019002402020001FF3E000000000000000000000000000120010DB8000000000000000000000001"
 #define ADD_B1 "0011001401010000" B1 /* with accounting */
 #define ADD_B2 "0011001401000000" B2
 #define ADD_A "0011001001010000" A /* with accounting */
@@ -353,7 +391,212 @@ static const step req06_state[] = {
      KEPT},
 };
 
-#define PLAY(name, steps) play(name, steps, sizeof steps / sizeof *steps)
+/* ---- Req 02. Two sources, one group: of the entries that match a flow those with the longest group prefix, of these
+   those with the longest source prefix; of these black goes before grey, grey before white. */
+#define GREY_JOIN(length, add) "2 880C00" length "3291000000000001800100" length P1 add /* by port 0, transaction 1 */
+#define GROUP_A "239.1.1.1"
+#define GROUP "239.1.1.2" /* of B1 to B4, from ONE to FOUR */
+#define ONE "192.0.2.1"
+#define TWO "192.0.2.2"
+#define THREE "192.0.2.3"
+#define FOUR "192.0.2.4"
+#define GROUP6 "ff3e::1" /* of V, from ONE6 */
+#define ONE6 "2001:db8::1"
+
+static const entry req02_e1[ENTRIES] = {{WHITE, GROUP, 32, ONE, 32}, {GREY, GROUP, 32, ANY}};
+static const step req02_examples[] = {
+    {"port 0 joins B1", "j 0001", "0", MOVED},
+    {"port 0 joins B2", "j 0002", "2 880C0030329100000000000180010030" P1 "0011001401000000" B2, MOVED},
+    {"B1 alone is active", "p 00",
+     "port 0 \"p1\": up, delegation 4000, committed 1000\n"
+     "  channel 1 (192.0.2.1, 239.1.1.2), rate 1000, charged, accounting 0\n",
+     KEPT},
+    {"port 1 joins B2", "j 0102", "2 880C0030329100000000000280010030" P2 "0011001401000000" B2, MOVED},
+    {"port 1 joins B1", "j 0101", "0", MOVED},
+    {"port 0 joins A", "j 0000", "3", KEPT},
+    {"port 0 joins V", "j 0005", "3", KEPT},
+};
+
+/* no refusal moves: a join's numbers in their order with each list, and an Add, which does not look at the lists */
+static const entry req02_three[ENTRIES] = {
+    {GREY, GROUP, 32, ANY}, {WHITE, GROUP, 32, ONE, 32}, {BLACK, GROUP, 32, TWO, 32}};
+static const step req02_refusals[] = {
+    {"unknown port, buffer of 4,607", "t 0301", "13", KEPT},
+    {"white, unknown port", "j 0301", "7", KEPT},
+    {"black, unknown port", "j 0302", "7", KEPT},
+    {"grey, unknown port", "j 0303", "7", KEPT},
+    {"port 1 down", "x 01", "0", MOVED},
+    {"port down, buffer of 4,607", "t 0101", "13", KEPT},
+    {"white, port down", "j 0101", "6", KEPT},
+    {"black, port down", "j 0102", "6", KEPT},
+    {"grey, port down", "j 0103", "6", KEPT},
+    {"bad flow, port down", "j 0107", "6", KEPT},
+    {"bad flow", "j 0007", "8", KEPT},
+    {"grey, but no channel", "j 0006", "9", KEPT},
+    {"white, buffer of 4,607", "t 0001", "13", KEPT},
+    {"black, buffer of 4,607", "t 0002", "13", KEPT},
+    {"grey, buffer of 4,607", "t 0003", "13", KEPT},
+    {"white", "j 0001", "0", MOVED},
+    {"white, active", "j 0001", "1", KEPT},
+    {"black", "j 0002", "3", KEPT},
+    {"no entry", "j 0000", "3", KEPT},
+    {"grey", "j 0003", GREY_JOIN("30", "0011001401000000" B3), MOVED},
+    {"Add, black", "m 880C0030329020000000000780010030" P1 ADD_B2, "0 880C000C325B3000000000078001000C", MOVED},
+    {"black, active", "j 0002", "1", KEPT},
+    {"Add, grey", "m 880C0030329020000000000880010030" P1 "0011001401000000" B3,
+     "0 880C000C325B3000000000088001000C", MOVED},
+    {"grey, active", "j 0003", "1", KEPT},
+    {"Add, no entry", "m 880C002C32901000000000098001002C" P1 ADD_A, "0", MOVED},
+    {"white, grey, black, none", "p 00",
+     "port 0 \"p1\": up, delegation 4000, committed 4000\n"
+     "  channel 0 (*, 239.1.1.1), rate 1000, charged, accounting 1\n"
+     "  channel 1 (192.0.2.1, 239.1.1.2), rate 1000, charged, accounting 0\n"
+     "  channel 2 (192.0.2.2, 239.1.1.2), rate 500, charged, accounting 0\n"
+     "  channel 3 (192.0.2.3, 239.1.1.2), rate 1500, charged, accounting 0\n",
+     KEPT},
+    {"port 0 leaves B2", "l 0002", "0", MOVED},
+    {"black again", "j 0002", "3", KEPT},
+    {"delegation 999", "d 02000003E7", "0", MOVED},
+    {"white, rate does not fit", "j 0201", "4", KEPT},
+    {"black, rate fits", "j 0202", "3", KEPT},
+    {"grey, rate does not fit", "j 0203", "2 880C0030329100000000000280010030" P3 "0011001401000000" B3,
+     MOVED},
+    {"delegation 1000", "d 02000003E8", "0", MOVED},
+    {"white, rate fits", "j 0201", "0", MOVED},
+};
+
+/* A list, and the numbers of joins of A, B1, B2, B3, B4 and V by port 0, each with S0. A white join begins (0), a grey
+   one writes the card's first 145 (2), a black one or one without an entry is ignored (3). */
+typedef struct {
+    const char *what;
+    entry list[ENTRIES];
+    const char *numbers;
+} decision;
+
+static void decides(const char *name, const decision *d, bool backwards) {
+    static const char *const grey[ROWS] = {
+        GREY_JOIN("2C", "0011001001000000" A),  GREY_JOIN("30", "0011001401000000" B1),
+        GREY_JOIN("30", "0011001401000000" B2), GREY_JOIN("30", "0011001401000000" B3),
+        GREY_JOIN("30", "0011001401000000" B4), GREY_JOIN("48", "0011002C01000000" V),
+    };
+    static const char *const calls[ROWS] = {"j 0000", "j 0001", "j 0002", "j 0003", "j 0004", "j 0005"};
+    for (size_t k = 0; k < ROWS; k++) {
+        const char number = d->numbers[k];
+        char what[128];
+        const char *answer = number == '0' ? "0" : number == '2' ? grey[k] : "3";
+        step s = {what, calls[k], answer, number == '3' ? KEPT : MOVED};
+        written_right(number && strchr("023", number));
+        snprintf(what, sizeof what, "%s%s: %s", d->what, backwards ? ", backwards" : "", calls[k]);
+        play(name, d->list, backwards, &s, 1);
+    }
+}
+
+/* R02.E1, R02.E2 */
+static const decision req02_worked[] = {
+    {"E1", {{WHITE, GROUP, 32, ONE, 32}, {GREY, GROUP, 32, ANY}}, "302223"},
+    {"E2, group first", {{WHITE, GROUP, 24, ONE, 32}, {BLACK, GROUP, 32, ANY}}, "333333"},
+    {"E2, source", {{WHITE, GROUP, 32, ONE, 32}, {BLACK, GROUP, 32, ANY}}, "303333"},
+    {"E2, tie", {{WHITE, GROUP, 32, ONE, 24}, {GREY, GROUP, 32, ONE, 24}}, "322223"},
+};
+
+/* each two lists on one group: either with the longer source, and tied */
+static const decision req02_lists[] = {
+    {"white over grey", {{WHITE, GROUP, 32, ONE, 32}, {GREY, GROUP, 32, ONE, 24}}, "302223"},
+    {"grey over white", {{GREY, GROUP, 32, ONE, 32}, {WHITE, GROUP, 32, ANY}}, "320003"},
+    {"white over black", {{WHITE, GROUP, 32, ONE, 32}, {BLACK, GROUP, 32, ANY}}, "303333"},
+    {"black over white", {{BLACK, GROUP, 32, ONE, 32}, {WHITE, GROUP, 32, ANY}}, "330003"},
+    {"grey over black", {{GREY, GROUP, 32, ONE, 32}, {BLACK, GROUP, 32, ANY}}, "323333"},
+    {"black over grey", {{BLACK, GROUP, 32, ONE, 32}, {GREY, GROUP, 32, ANY}}, "332223"},
+    {"tie, white, grey", {{WHITE, GROUP, 32, ONE, 32}, {GREY, GROUP, 32, ONE, 32}}, "323333"},
+    {"tie, white, black",
+     {{WHITE, GROUP, 32, ONE, 32}, {BLACK, GROUP, 32, ONE, 32}, {WHITE, "239.0.0.0", 8, ANY}}, "030003"},
+    {"tie, grey, black",
+     {{GREY, GROUP, 32, ONE, 32}, {BLACK, GROUP, 32, ONE, 32}, {WHITE, "239.0.0.0", 8, ANY}}, "030003"},
+    {"tie, both for all", {{WHITE, GROUP, 8, ANY}, {GREY, GROUP, 8, ANY}}, "222223"},
+    {"two equal ones", {{WHITE, GROUP, 32, ONE, 32}, {WHITE, GROUP, 32, ONE, 32}}, "303333"},
+};
+
+/* the longer group prefix decides, whatever the sources; the last six have equal sums */
+static const decision req02_group_first[] = {
+    {"white, not black", {{WHITE, GROUP, 32, ANY}, {BLACK, GROUP, 24, ONE, 32}}, "300003"},
+    {"white, not grey", {{WHITE, GROUP, 32, ANY}, {GREY, GROUP, 24, ONE, 32}}, "300003"},
+    {"grey, not white", {{GREY, GROUP, 32, ANY}, {WHITE, GROUP, 24, ONE, 32}}, "322223"},
+    {"grey, not black", {{GREY, GROUP, 32, ANY}, {BLACK, GROUP, 24, ONE, 32}}, "322223"},
+    {"black, not white", {{BLACK, GROUP, 32, ANY}, {WHITE, GROUP, 24, ONE, 32}}, "333333"},
+    {"black, not grey", {{BLACK, GROUP, 32, ANY}, {GREY, GROUP, 24, ONE, 32}}, "333333"},
+    {"one bit of group", {{WHITE, GROUP, 32, ANY}, {BLACK, GROUP, 31, ONE, 32}}, "300003"},
+    {"group 1 over 0", {{WHITE, GROUP, 1, ANY}, {BLACK, GROUP, 0, ONE, 32}}, "000003"},
+    {"IPv6, one bit", {{WHITE, GROUP6, 128, ANY}, {BLACK, GROUP6, 127, ONE6, 128}}, "333330"},
+    {"IPv6, grey", {{GREY, GROUP6, 64, ANY}, {WHITE, GROUP6, 8, ONE6, 128}}, "333332"},
+    {"sum 63", {{WHITE, GROUP, 32, ONE, 31}, {BLACK, GROUP, 31, ONE, 32}}, "303333"},
+    {"sum 32", {{GREY, GROUP, 32, ANY}, {BLACK, GROUP, 8, ONE, 24}}, "322223"},
+    {"sum 48", {{WHITE, GROUP, 24, ONE, 24}, {GREY, GROUP, 16, ONE, 32}}, "300003"},
+    {"sum 33", {{WHITE, GROUP, 32, ONE, 1}, {GREY, GROUP, 31, ONE, 2}}, "300003"},
+    {"sum 255", {{WHITE, GROUP6, 128, ONE6, 127}, {BLACK, GROUP6, 127, ONE6, 128}}, "333330"},
+    {"sum 128", {{GREY, GROUP6, 128, ANY}, {BLACK, GROUP6, 64, ONE6, 64}}, "333332"},
+};
+
+/* source lengths next to each other, at their limits; and sources that are not matched */
+static const decision req02_limits[] = {
+    {"1 over 0", {{WHITE, GROUP, 32, "128.0.0.0", 1}, {BLACK, GROUP, 32, ANY}}, "300003"},
+    {"1, not matched", {{BLACK, GROUP, 32, "64.0.0.0", 1}, {WHITE, GROUP, 32, ANY}}, "300003"},
+    {"2 over 1", {{GREY, GROUP, 32, ONE, 2}, {BLACK, GROUP, 32, ONE, 1}}, "322223"},
+    {"32 over 31", {{WHITE, GROUP, 32, TWO, 32}, {GREY, GROUP, 32, TWO, 31}, {BLACK, GROUP, 32, ANY}}, "330233"},
+    {"group 0", {{WHITE, GROUP, 0, ONE, 32}, {GREY, GROUP, 0, ANY}}, "202223"},
+    {"group 0, 1 over 0", {{WHITE, "0.0.0.0", 0, ONE, 1}, {BLACK, "0.0.0.0", 0, ANY}}, "300003"},
+    {"IPv6, 128 over 127", {{WHITE, GROUP6, 128, ONE6, 128}, {BLACK, GROUP6, 128, ONE6, 127}}, "333330"},
+    {"IPv6, black", {{BLACK, GROUP6, 128, ONE6, 128}, {WHITE, GROUP6, 128, ONE6, 127}}, "333333"},
+    {"IPv6, another", {{BLACK, GROUP6, 128, "2001:db8::", 128}, {WHITE, GROUP6, 128, "2001:db8::", 127}}, "333330"},
+    {"IPv6, tie", {{WHITE, GROUP6, 128, ONE6, 127}, {GREY, GROUP6, 128, ONE6, 127}}, "333332"},
+    {"IPv6, 1 over 0", {{WHITE, GROUP6, 128, "::", 1}, {BLACK, GROUP6, 128, ANY}}, "333330"},
+    {"IPv6, 1, not matched", {{BLACK, GROUP6, 128, "8000::", 1}, {GREY, GROUP6, 128, ANY}}, "333332"},
+    {"IPv6, 33 over 32", {{WHITE, GROUP6, 8, ONE6, 33}, {GREY, GROUP6, 8, ONE6, 32}}, "333330"},
+    {"IPv6, 65 over 64", {{GREY, GROUP6, 8, ONE6, 65}, {BLACK, GROUP6, 8, ONE6, 64}}, "333332"},
+    {"IPv6, 97 over 96", {{WHITE, GROUP6, 8, ONE6, 97}, {BLACK, GROUP6, 8, ONE6, 96}}, "333330"},
+    {"IPv6, group 0", {{WHITE, GROUP6, 0, ONE6, 128}, {BLACK, GROUP6, 0, ANY}}, "333330"},
+};
+
+/* A has no source: no entry with a source prefix matches it, however long its group prefix is */
+static const decision req02_no_source[] = {
+    {"32", {{WHITE, GROUP_A, 32, ANY}, {BLACK, GROUP_A, 32, ONE, 32}}, "033333"},
+    {"1", {{WHITE, GROUP_A, 32, ANY}, {BLACK, GROUP_A, 32, ONE, 1}}, "033333"},
+    {"0.0.0.0/32", {{WHITE, GROUP_A, 32, ANY}, {BLACK, GROUP_A, 32, "0.0.0.0", 32}}, "033333"},
+    {"0.0.0.0/1", {{GREY, GROUP_A, 32, ANY}, {WHITE, GROUP_A, 32, "0.0.0.0", 1}}, "233333"},
+    {"a longer group", {{GREY, "239.1.1.0", 24, ANY}, {WHITE, GROUP_A, 32, ONE, 32}}, "222223"},
+    {"for nobody", {{WHITE, GROUP_A, 32, ONE, 32}, {WHITE, GROUP_A, 32, "0.0.0.0", 32}}, "333333"},
+    {"group first", {{WHITE, GROUP_A, 32, ANY}, {BLACK, GROUP_A, 31, ANY}}, "033333"},
+    {"tie", {{WHITE, GROUP_A, 32, ANY}, {GREY, GROUP_A, 32, ANY}}, "233333"},
+    {"one for all", {{GREY, "239.1.1.0", 30, ONE, 24}, {WHITE, "239.1.1.0", 30, ANY}}, "022223"},
+};
+
+/* a third entry, and a fourth */
+static const decision req02_more[] = {
+    {"longer and longer", {{WHITE, GROUP, 32, ONE, 32}, {GREY, GROUP, 32, ONE, 24}, {BLACK, GROUP, 32, ANY}}, "302223"},
+    {"two sources", {{BLACK, GROUP, 32, ONE, 32}, {GREY, GROUP, 32, TWO, 32}, {WHITE, GROUP, 32, ANY}}, "332003"},
+    {"a tie over black", {{WHITE, GROUP, 32, ONE, 32}, {GREY, GROUP, 32, ONE, 32}, {BLACK, GROUP, 32, ANY}}, "323333"},
+    {"a shorter group between",
+     {{WHITE, GROUP, 32, ONE, 24}, {BLACK, GROUP, 31, ONE, 32}, {GREY, GROUP, 32, ANY}}, "300003"},
+    {"four",
+     {{BLACK, GROUP, 32, ANY}, {GREY, GROUP, 32, FOUR, 29}, {WHITE, GROUP, 32, TWO, 31}, {BLACK, GROUP, 32, THREE, 32}},
+     "320323"},
+    {"both families",
+     {{WHITE, GROUP, 32, ONE, 8}, {GREY, GROUP, 32, ANY}, {GREY, GROUP6, 128, ONE6, 64},
+      {BLACK, GROUP6, 128, ONE6, 32}},
+     "300002"},
+};
+
+#define COUNT(rows) (sizeof(rows) / sizeof *(rows))
+#define PLAY(name, steps) play(name, all_white, false, steps, COUNT(steps))
+#define PLAY_LIST(name, list, steps) \
+    play(name, list, false, steps, COUNT(steps)), play(name ", backwards", list, true, steps, COUNT(steps))
+#define DECIDE(name, lists) decide(name, lists, COUNT(lists))
+
+static void decide(const char *name, const decision *lists, size_t count) {
+    for (size_t i = 0; i < count; i++) {
+        decides(name, &lists[i], false);
+        decides(name, &lists[i], true);
+    }
+}
 
 int main(void) {
     PLAY("Req 06, examples", req06_examples);
@@ -361,6 +604,14 @@ int main(void) {
     PLAY("Req 06, order", req06_order);
     PLAY("Req 06, before the table", req06_before);
     PLAY("Req 06, state", req06_state);
+    PLAY_LIST("Req 02, example", req02_e1, req02_examples);
+    PLAY_LIST("Req 02, refusals", req02_three, req02_refusals);
+    DECIDE("Req 02, examples", req02_worked);
+    DECIDE("Req 02, two lists", req02_lists);
+    DECIDE("Req 02, group first", req02_group_first);
+    DECIDE("Req 02, limits", req02_limits);
+    DECIDE("Req 02, no source", req02_no_source);
+    DECIDE("Req 02, more entries", req02_more);
     printf("requests: %lu values as they must be\n", tried);
     return 0;
 }
