@@ -15,9 +15,9 @@
 
    Each table begins with S0: ports 0, 1, 2 are p1, p2, p3, all up, with delegation 4000. Channels: row 0 is A,
    239.1.1.1, rate 1000; rows 1 to 4 are B1 to B4, 239.1.1.2 from 192.0.2.1 to 192.0.2.4, rates 1000, 500, 1500, 1; row
-   5 is V, ff3e::1 from 2001:db8::1, rate 2000. Flows that are no channels: row 6 is 239.1.1.2 from 192.0.2.5, and row 7
-   is bad, 239.1.1.2 from itself. All are white; both switches are on; the first transaction number is 1. A table with
-   lists of its own has S0 with these lists, and is played with their rows in both orders. */
+   5 is V, ff3e::1 from 2001:db8::1, rate 2000. All are white; both switches are on; the first transaction number is 1.
+   Flows that are no channels: row 6 is 239.1.1.2 from 192.0.2.5, row 7 is 239.1.1.2 from itself, which is bad. A table
+   with a list of its own has S0 with this list, and is played with the list's rows in both orders. */
 #include "test.h"
 #include <stdio.h>
 #include <stdlib.h>
@@ -29,10 +29,10 @@ typedef struct {
 } step;
 
 unsigned long tried;
-static const char *request, *now;
+static const char *request, *order, *now;
 
 static void differs(const char *file, int line) {
-    printf("%s:%d: %s, %s: ", file, line, request, now);
+    printf("%s:%d: %s%s, %s: ", file, line, request, order, now);
 }
 
 void same(const char *file, int line, const char *what, unsigned long long is, unsigned long long due) {
@@ -202,6 +202,7 @@ static void try_step(const step *s) {
 
 static void play(const char *name, const entry *list, bool backwards, const step *steps, size_t count) {
     request = name;
+    order = backwards ? " (rows backwards)" : "";
     now = "start";
     start_s0(list, backwards);
     for (size_t i = 0; i < count; i++) try_step(&steps[i]);
@@ -473,8 +474,8 @@ typedef struct {
     const char *numbers;
 } decision;
 
-static void decides(const char *name, const decision *d, bool backwards) {
-    static const char *const grey[ROWS] = {
+static void decide(const char *name, const decision *d, bool backwards) {
+    static const char *const admission[ROWS] = {
         GREY_JOIN("2C", "0011001001000000" A),  GREY_JOIN("30", "0011001401000000" B1),
         GREY_JOIN("30", "0011001401000000" B2), GREY_JOIN("30", "0011001401000000" B3),
         GREY_JOIN("30", "0011001401000000" B4), GREY_JOIN("48", "0011002C01000000" V),
@@ -482,12 +483,19 @@ static void decides(const char *name, const decision *d, bool backwards) {
     static const char *const calls[ROWS] = {"j 0000", "j 0001", "j 0002", "j 0003", "j 0004", "j 0005"};
     for (size_t k = 0; k < ROWS; k++) {
         const char number = d->numbers[k];
-        char what[128];
-        const char *answer = number == '0' ? "0" : number == '2' ? grey[k] : "3";
+        const char *answer = number == '0' ? "0" : number == '2' ? admission[k] : "3";
+        char what[64];
         step s = {what, calls[k], answer, number == '3' ? KEPT : MOVED};
         written_right(number && strchr("023", number));
-        snprintf(what, sizeof what, "%s%s: %s", d->what, backwards ? ", backwards" : "", calls[k]);
+        snprintf(what, sizeof what, "%s: %s", d->what, calls[k]);
         play(name, d->list, backwards, &s, 1);
+    }
+}
+
+static void decide_both(const char *name, const decision *lists, size_t count) {
+    for (size_t i = 0; i < count; i++) {
+        decide(name, &lists[i], false);
+        decide(name, &lists[i], true);
     }
 }
 
@@ -585,18 +593,15 @@ static const decision req02_more[] = {
      "300002"},
 };
 
+static void play_both(const char *name, const entry *list, const step *steps, size_t count) {
+    play(name, list, false, steps, count);
+    play(name, list, true, steps, count);
+}
+
 #define COUNT(rows) (sizeof(rows) / sizeof *(rows))
 #define PLAY(name, steps) play(name, all_white, false, steps, COUNT(steps))
-#define PLAY_LIST(name, list, steps) \
-    play(name, list, false, steps, COUNT(steps)), play(name ", backwards", list, true, steps, COUNT(steps))
-#define DECIDE(name, lists) decide(name, lists, COUNT(lists))
-
-static void decide(const char *name, const decision *lists, size_t count) {
-    for (size_t i = 0; i < count; i++) {
-        decides(name, &lists[i], false);
-        decides(name, &lists[i], true);
-    }
-}
+#define PLAY_LIST(name, list, steps) play_both(name, list, steps, COUNT(steps))
+#define DECIDE(name, lists) decide_both(name, lists, COUNT(lists))
 
 int main(void) {
     PLAY("Req 06, examples", req06_examples);
