@@ -11,7 +11,7 @@ typedef ancp_flow flow;
 uint32_t speed_channel(const uint32_t *channels, size_t n, flow f);
 uint32_t speed_list(const uint32_t *entries, size_t n, flow f);
 
-static uint32_t channels[256 * 11], entries[128 * 12];
+static uint32_t channels[256 * 11], entries[128 * 12], matching[128 * 12];
 
 __attribute__((noinline)) static uint32_t c_channel(const uint32_t *t, size_t n, const flow *f) {
     for (size_t i = 0; i < n; i++) {
@@ -68,54 +68,68 @@ static void fill(uint32_t family) {
 }
 
 /* the same entries, each with the prefixes of this flow: all match it */
-static void match_all(const flow *f) {
+static void fill_matching(const flow *f) {
+    memcpy(matching, entries, sizeof matching);
     for (int i = 0; i < 128; i++) {
-        memcpy(entries + i * 12 + 4, f->group, 16);
-        memcpy(entries + i * 12 + 8, f->source, 16);
+        memcpy(matching + i * 12 + 4, f->group, 16);
+        memcpy(matching + i * 12 + 8, f->source, 16);
     }
 }
 
 static flow row(int i) { flow f; const uint32_t *r = channels + i * 11; f.family = (ancp_family)r[0]; f.sourced = r[1]; memcpy(f.group, r + 3, 16); memcpy(f.source, r + 7, 16); return f; }
 
-/* ends the program where a proved function and the C loop differ on one of the 256 flows */
+/* ---- what is measured: the proved function, and behind it the C loop */
+typedef uint32_t measured(const flow *);
+static uint32_t proved_channel(const flow *f) { return speed_channel(channels, 256, *f); }
+static uint32_t plain_channel(const flow *f) { return c_channel(channels, 256, f); }
+static uint32_t proved_list(const flow *f) { return speed_list(entries, 128, *f); }
+static uint32_t plain_list(const flow *f) { return c_list(entries, 128, f); }
+static uint32_t proved_matching(const flow *f) { return speed_list(matching, 128, *f); }
+static uint32_t plain_matching(const flow *f) { return c_list(matching, 128, f); }
+
+enum { ROWS = 3 };
+static const char *const names[ROWS] = {"last of 256 channels", "128 entries", "128 entries, all matching"};
+static measured *const calls[ROWS][2] = {
+    {proved_channel, plain_channel}, {proved_list, plain_list}, {proved_matching, plain_matching}};
+
+/* ends the program where the two differ on one of the 256 flows */
 static void compare(void) {
-    for (int i = 0; i < 256; i++) {
-        flow f = row(i);
-        if (speed_channel(channels, 256, f) == c_channel(channels, 256, &f) && speed_list(entries, 128, f) == c_list(entries, 128, &f)) continue;
+    for (int i = 0; i < 256 * ROWS; i++) {
+        flow f = row(i / ROWS);
+        if (calls[i % ROWS][0](&f) == calls[i % ROWS][1](&f)) continue;
         puts("differ");
         exit(1);
     }
 }
 
-enum { N = 200000 };
-static volatile uint32_t sink;
-
-static void measure_channel(const flow *f) {
-    double a = now(); for (int i = 0; i < N; i++) sink += speed_channel(channels, 256, *f);
-    double b = now(); for (int i = 0; i < N; i++) sink += c_channel(channels, 256, f);
-    double c = now();
-    printf("last of 256 channels %4.0f ns, C %4.0f ns", (b - a) / N, (c - b) / N);
+static double timed(measured *call, const flow *f) {
+    enum { N = 2000 };
+    static volatile uint32_t sink;
+    double from = now();
+    for (int i = 0; i < N; i++) sink += call(f);
+    return (now() - from) / N;
 }
 
-static void measure_list(const char *what, const flow *f) {
-    double a = now(); for (int i = 0; i < N; i++) sink += speed_list(entries, 128, *f);
-    double b = now(); for (int i = 0; i < N; i++) sink += c_list(entries, 128, f);
-    double c = now();
-    printf("; 128 entries%s %4.0f ns, C %4.0f ns", what, (b - a) / N, (c - b) / N);
+/* the least of many rounds, each through all that is measured */
+static void measure(const flow *f) {
+    double least[ROWS][2] = {{1e9, 1e9}, {1e9, 1e9}, {1e9, 1e9}};
+    for (int i = 0; i < 400 * ROWS * 2; i++) {
+        int r = i / 2 % ROWS, c = i % 2;
+        double took = timed(calls[r][c], f);
+        if (took < least[r][c]) least[r][c] = took;
+    }
+    for (int r = 0; r < ROWS; r++) printf("%s%s %4.0f ns, C %4.0f ns", r ? "; " : "", names[r], least[r][0], least[r][1]);
+    putchar('\n');
 }
 
 int main(void) {
     for (uint32_t family = 1; family <= 2; family++) {
         fill(family);
         flow f = row(255);
+        fill_matching(&f);
         compare();
         printf("IPv%d: ", family == 1 ? 4 : 6);
-        measure_channel(&f);
-        measure_list("", &f);
-        match_all(&f);
-        compare();
-        measure_list(", all matching", &f);
-        putchar('\n');
+        measure(&f);
     }
     return 0;
 }
