@@ -16,7 +16,7 @@ use Rattle.lists.specs.declared.Decision.the-variants.{Black, Grey, White, None
 use Rattle.lists.specs.Lists.{listDecision}
 use Rattle.pool.specs.Pool.{isActive, hasRoom}
 use Rattle.card.specs.Cards.{Card, hasPort, portAt}
-use Rattle.card.specs.Outcome.{Outcome, keeps, becomes}
+use Rattle.card.specs.Outcome.{Outcome}
 use Rattle.joins.specs.Joins.{fits, admitNumber, whiteOf, greyOf, byList, joinRow, joinOf}
 use Rattle.demand3.specs.Calls.{Tables, Call, outcomeOf}
 use Rattle.demand3.specs.Calls.Call.{portUp, portDown, setDelegation, join, leave, ask, message}

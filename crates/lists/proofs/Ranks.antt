@@ -14,7 +14,7 @@ use borrow.Author.Tests.{eqb-true, eqb-false, eq-eqb, ne-eqb, leb-true, leb-fals
 use Rattle.octets.proofs.Tests.{false-by}
 use Rattle.flows.specs.declared.Flow.{Flow}
 use Rattle.lists.specs.Lists.{entryAt, entryMatches, matching, groupLength, sourceLength, longest, ofLength, withLongest, mostSpecific, has, byPriority, decision}
-use Rattle.lists.specs.Ranks.{strengthOf, rankOf, lowest, isAbove, highest, decisionOf}
+use Rattle.lists.specs.Ranks.{strengthOf, rankOf, isAbove, highest, decisionOf}
 use Rattle.lists.specs.declared.Entry.{Entry}
 use Rattle.lists.specs.declared.Rank.{Rank}
 use Rattle.lists.specs.declared.Decision.the-variants.{Black, Grey, White, None}
@@ -27,19 +27,19 @@ module _ (length : Entry → ℕ) where
   none-longer n (e ∷ es) h = rw (ne-eqb (length e) n (λ k. omega arith)) (none-longer n es (omega arith))
 
   module _ (e : Entry) (es : List Entry) where
-    pub cons-above : longest length es < length e → withLongest length (e ∷ es) ≡ e ∷ []
+    cons-above : longest length es < length e → withLongest length (e ∷ es) ≡ e ∷ []
     unfolding longest ofLength withLongest
     cons-above h =
         let m : max (length e) (longest length es) ≡ length e = omega arith in
         rw (m, eq-eqb (length e) (length e) refl) (ap (λ (r : List Entry). e ∷ r) (none-longer (length e) es h))
 
-    pub cons-same : length e ≡ longest length es → withLongest length (e ∷ es) ≡ e ∷ withLongest length es
+    cons-same : length e ≡ longest length es → withLongest length (e ∷ es) ≡ e ∷ withLongest length es
     unfolding longest ofLength withLongest
     cons-same h =
         let m : max (length e) (longest length es) ≡ longest length es = omega arith in
         rw (m, eq-eqb (length e) (longest length es) h) refl
 
-    pub cons-below : length e < longest length es → withLongest length (e ∷ es) ≡ withLongest length es
+    cons-below : length e < longest length es → withLongest length (e ∷ es) ≡ withLongest length es
     unfolding longest ofLength withLongest
     cons-below h =
         let m : max (length e) (longest length es) ≡ longest length es = omega arith in

@@ -1,7 +1,6 @@
 use mathlib.Core.Path.{ap}
 use Prim.Native.Nat.{ℕ}
 use Rattle.lists.specs.Ranks.{rankOf}
-use Rattle.lists.specs.declared.Rank.{Rank}
 use borrow.Author.Needs.{needs}
 use Rattle.lists.proofs.rank_of.Statement.{statement}
 use Rattle.lists.proofs.rank_of.Tie as tie
