@@ -9,6 +9,7 @@ use mathlib.Core.List.{List, [], _∷_, _++_}
 use mathlib.Core.Logic.{_⊎_, inl, inr, ⊎-elim}
 use native.Mathlib.Omega.{arith}
 use lib.ListN.{length, getD}
+use Rattle.octets.specs.Members.{Among}
 use Rattle.ports.specs.declared.Port.{Port}
 use Rattle.rows.specs.declared.Found.the-variants.{At}
 use Rattle.numbers.specs.Numbers.{numberAfter}
@@ -20,7 +21,7 @@ use Rattle.demand3.specs.Corollaries.{cardFrom}
 use Rattle.demand3.proofs.Fresh.{agree-fresh, started-port}
 use Rattle.demand3.proofs.Calls.{calls-agree}
 use Rattle.demand3.proofs.Counter.{first-counter, first-range, counter-range}
-use Rattle.grants.specs.Grants.{writtenFrom, writtenOf, NoRequest, Moved, takenBy, transactionIn, numbersOf, begunOf, LastRequest, OwnGrant, Stretch, Among, Disjoint, presentOf, IsTaken, Grants}
+use Rattle.grants.specs.Grants.{writtenFrom, writtenOf, NoRequest, Moved, takenBy, transactionIn, numbersOf, begunOf, LastRequest, OwnGrant, Stretch, Disjoint, presentOf, IsTaken, Grants}
 use Rattle.grants.proofs.Numbers.{isBegun, begun-146, calls-stretch}
 use Rattle.grants.proofs.Once.{taken-once}
 use Rattle.grants.proofs.Last.{Since, open-since, last-in, calls-last, taken-open}

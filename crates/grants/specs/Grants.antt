@@ -4,9 +4,9 @@ use Prim.Native.Nat.{ℕ, _+_, _≤_, _<_}
 use mathlib.Core.Path.{_≡_}
 use mathlib.Core.Bool.{Bool, cond, _||_}
 use mathlib.Core.List.{List, [], _∷_, _++_, map}
-use mathlib.Core.Logic.{_⊎_}
 use lib.ListN.{length, getD}
 use lib.Dec.{eqb}
+use Rattle.octets.specs.Members.{Among}
 use Rattle.header.specs.Header.{headerIn}
 use Rattle.rows.specs.declared.Found.the-variants.{At}
 use Rattle.card.specs.Cards.{Card}
@@ -71,11 +71,6 @@ pub record OwnGrant (t : Tables) (m : List ℕ) (ms : List (List ℕ)) : Type 0 
 pub record Stretch (first present : ℕ) (ns : List ℕ) : Type 0 where
   pub each : (i : ℕ) → i < length ns → getD ns i 0 ≡ numberAfter first i
   pub next : present ≡ numberAfter first (length ns)
-
--- n is one of some numbers
-unfoldable pub Among : ℕ → List ℕ → Type 0
-Among n [] = ⊥
-Among n (k ∷ ks) = (n ≡ k) ⊎ Among n ks
 
 -- no number is one of both
 abbrev pub Disjoint : List ℕ → List ℕ → Type 0

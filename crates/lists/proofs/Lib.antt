@@ -1,3 +1,3 @@
 pub mod Prefix
 pub mod Ranks
-pub mod Sources
+pub mod Laws

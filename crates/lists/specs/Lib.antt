@@ -1,4 +1,4 @@
 pub mod Prefix
 pub mod Lists
 pub mod Ranks
-pub mod Sources
+pub mod Laws

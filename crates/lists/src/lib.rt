@@ -7,7 +7,7 @@ ghost use Rattle.flows.specs.Words.{addressAt};
 ghost use Rattle.lists.specs.Prefix.{prefixMatches};
 ghost use Rattle.lists.specs.Lists.{entryAt, entryMatches, listDecision};
 ghost use Rattle.lists.specs.Ranks.{strengthOf, rankOf, isAbove, decisionOf};
-ghost use Rattle.lists.specs.Sources.{Sources};
+ghost use Rattle.lists.specs.Laws.{Laws};
 use flows::Flow;
 use rows::at_most;
 
@@ -176,10 +176,10 @@ fn strength_of(list: u32) -> u32
     }
 }
 
-// What a strength decides. Owed here too: where the source prefixes do not decide.
+// What a strength decides. Owed here too: what follows from the rule.
 fn decision_of(strength: u32) -> Decision
     ensures { λ r. ⌜ r ≡ decisionOf strength ⌝ }
-    ensures { λ r. ⌜ Sources ⌝ }
+    ensures { λ r. ⌜ Laws ⌝ }
 {
     match strength {
         3 => Decision::Black,

@@ -1,0 +1,149 @@
+-- What follows from the rule (specs/Laws.antt).
+--     laws     the statements
+-- Assumes nothing.
+use Prim.Native.Nat.{ℕ, zero, suc, _≤_, max, min}
+use mathlib.Core.Path.{_≡_, refl, sym, ap, _∙_}
+use mathlib.Core.Logic.{_⊎_, inl, inr, ⊎-elim}
+use mathlib.Core.Bool.{Bool, true, false, cond, _||_, or-true, false≢true}
+use mathlib.Core.List.{List, [], _∷_}
+use lib.Dec.{eqb}
+use native.Mathlib.Omega.{arith}
+use borrow.Author.Tests.{eqb-true, eq-eqb}
+use Rattle.octets.specs.Members.{Among}
+use Rattle.octets.proofs.Tests.{each, same-by, taken}
+use Rattle.flows.specs.declared.Flow.{Flow}
+use Rattle.lists.specs.Prefix.{prefixMatches}
+use Rattle.lists.specs.Lists.{entryAt, entryMatches, matching, groupLength, sourceLength, longest, ofLength, withLongest, mostSpecific, has, byPriority, decision, listDecision}
+use Rattle.lists.specs.Laws.{ofLongestGroup, groupDecision, EachFrom, Laws}
+use Rattle.lists.specs.declared.Entry.{Entry}
+
+-- ---- entries of one source length
+all-of : (s : ℕ) (es : List Entry) → EachFrom s es → ofLength sourceLength s es ≡ es
+unfolding EachFrom ofLength
+all-of s [] h = refl
+all-of s (e ∷ es) h = rw (eq-eqb (sourceLength e) s (h .0)) (ap (λ (r : List Entry). e ∷ r) (all-of s es (h .1)))
+
+no-longer : (s : ℕ) (es : List Entry) → EachFrom s es → longest sourceLength es ≤ s
+unfolding EachFrom longest
+no-longer s [] h = omega arith
+no-longer s (e ∷ es) h = omega (arith, h .0, no-longer s es (h .1))
+
+-- all of them have the longest
+all-longest : (s : ℕ) (es : List Entry) → EachFrom s es → withLongest sourceLength es ≡ es
+unfolding EachFrom longest ofLength withLongest
+all-longest s [] h = refl
+all-longest s (e ∷ es) h =
+    let m : max (sourceLength e) (longest sourceLength es) ≡ s = omega (arith, h .0, no-longer s es (h .1)) in
+    rw m (rw (eq-eqb (sourceLength e) s (h .0)) (ap (λ (r : List Entry). e ∷ r) (all-of s es (h .1))))
+
+one : (t : List ℕ) (n : ℕ) (f : Flow) (s : ℕ) → EachFrom s (ofLongestGroup t n f) → listDecision t n f ≡ groupDecision t n f
+unfolding listDecision decision mostSpecific groupDecision ofLongestGroup
+one t n f s h = ap byPriority (all-longest s (withLongest groupLength (matching t f (min n 128))) h)
+
+-- ---- a flow without a source is matched by source length 0 alone
+module _ (f : Flow) (z : f .sourced ≡ 0) where
+  from-none : (e : Entry) → entryMatches e f ≡ true → sourceLength e ≡ 0
+  unfolding entryMatches
+  from-none e m =
+      let last = each (eqb (e .family) (f .family) ∷ prefixMatches (e .«group_length») (e .group) (f .group)
+      ∷ cond (eqb (f .sourced) 0) (eqb (e .«source_length») 0) (prefixMatches (e .«source_length») (e .source) (f .source)) ∷ []) m .1 .1 .0 in
+      eqb-true (e .«source_length») 0 (taken (eqb (f .sourced) 0) (eqb (e .«source_length») 0) _ (eq-eqb (f .sourced) 0 z) ∙ last)
+
+  all-matching : (t : List ℕ) (n : ℕ) → EachFrom 0 (matching t f n)
+  unfolding matching EachFrom
+  all-matching t zero = tt
+  all-matching t (suc n) = go (all-matching t n) (entryMatches (entryAt t n) f) refl
+    where
+      go : EachFrom 0 (matching t f n) → (b : Bool) → entryMatches (entryAt t n) f ≡ b → EachFrom 0 (cond b (entryAt t n ∷ matching t f n) (matching t f n))
+      go rest true m = (from-none (entryAt t n) m, rest)
+      go rest false m = rest
+
+some-from : (length : Entry → ℕ) (s k : ℕ) (es : List Entry) → EachFrom s es → EachFrom s (ofLength length k es)
+unfolding EachFrom ofLength
+some-from length s k [] h = tt
+some-from length s k (e ∷ es) h = go (some-from length s k es (h .1)) (eqb (length e) k)
+  where
+    go : EachFrom s (ofLength length k es) → (b : Bool) → EachFrom s (cond b (e ∷ ofLength length k es) (ofLength length k es))
+    go rest true = (h .0, rest)
+    go rest false = rest
+
+-- ---- entries as such, wherever they stand
+abbrev Within : List Entry → List Entry → Type 0
+Within es fs = (e : Entry) → Among e es → Among e fs
+
+rest-within : (e : Entry) (es fs : List Entry) → Within (e ∷ es) fs → Within es fs
+unfolding Among
+rest-within e es fs w x a = w x (inr a)
+
+module _ (length : Entry → ℕ) where
+  among-le : (e : Entry) (es : List Entry) → Among e es → length e ≤ longest length es
+  unfolding Among longest
+  among-le e [] a = absurd a
+  among-le e (x ∷ es) a = ⊎-elim (λ (p : e ≡ x). omega (arith, ap length p)) (λ (b : Among e es). omega (arith, among-le e es b)) a
+
+  longest-le : (es fs : List Entry) → Within es fs → longest length es ≤ longest length fs
+  unfolding Among longest
+  longest-le [] fs w = omega arith
+  longest-le (e ∷ es) fs w = omega (arith, among-le e fs (w e (inl refl)), longest-le es fs (rest-within e es fs w))
+
+  of-length-in : (e : Entry) (n : ℕ) (es : List Entry) → Among e (ofLength length n es) → Among e es × (length e ≡ n)
+  unfolding Among ofLength
+  of-length-in e n [] a = absurd a
+  of-length-in e n (x ∷ es) a = go (eqb (length x) n) refl a (λ b. of-length-in e n es b)
+    where
+      go : (t : Bool) → eqb (length x) n ≡ t → Among e (cond t (x ∷ ofLength length n es) (ofLength length n es))
+          → (Among e (ofLength length n es) → Among e es × (length e ≡ n)) → Among e (x ∷ es) × (length e ≡ n)
+      go true q a ih = ⊎-elim (λ (p : e ≡ x). (inl p, ap length p ∙ eqb-true (length x) n q)) (λ (b : Among e (ofLength length n es)). (inr (ih b .0), ih b .1)) a
+      go false q a ih = (inr (ih a .0), ih a .1)
+
+  of-length-out : (e : Entry) (n : ℕ) (es : List Entry) → Among e es → length e ≡ n → Among e (ofLength length n es)
+  unfolding Among ofLength
+  of-length-out e n [] a l = a
+  of-length-out e n (x ∷ es) a l = go (eqb (length x) n) refl a (λ b. of-length-out e n es b l)
+    where
+      go : (t : Bool) → eqb (length x) n ≡ t → Among e (x ∷ es) → (Among e es → Among e (ofLength length n es))
+          → Among e (cond t (x ∷ ofLength length n es) (ofLength length n es))
+      go true q a ih = ⊎-elim (λ (p : e ≡ x). inl p) (λ (b : Among e es). inr (ih b)) a
+      go false q a ih = ⊎-elim (λ (p : e ≡ x). absurd (false≢true (sym q ∙ eq-eqb (length x) n (sym (ap length p) ∙ l)))) ih a
+
+  longest-within : (es fs : List Entry) → Within es fs → Within fs es → Within (withLongest length es) (withLongest length fs)
+  unfolding withLongest
+  longest-within es fs w v e a =
+      let i = of-length-in e (longest length es) es a in
+      let same : longest length es ≡ longest length fs = omega (arith, longest-le es fs w, longest-le fs es v) in
+      of-length-out e (longest length fs) fs (w e (i .0)) (i .1 ∙ same)
+
+has-among : (e : Entry) (list : ℕ) (es : List Entry) → Among e es → e .list ≡ list → has list es ≡ true
+unfolding Among has
+has-among e list [] a l = absurd a
+has-among e list (x ∷ es) a l =
+    ⊎-elim (λ (p : e ≡ x). simp (eq-eqb (x .list) list (sym (ap (λ (y : Entry). y .list) p) ∙ l)))
+    (λ (b : Among e es). simp (has-among e list es b l) (or-true (eqb (x .list) list))) a
+
+has-within : (list : ℕ) (es fs : List Entry) → Within es fs → has list es ≡ true → has list fs ≡ true
+unfolding Among has
+has-within list [] fs w h = absurd (false≢true h)
+has-within list (e ∷ es) fs w h = go (has-within list es fs (rest-within e es fs w)) (eqb (e .list) list) refl h
+  where
+    go : (has list es ≡ true → has list fs ≡ true) → (t : Bool) → eqb (e .list) list ≡ t → (t || has list es) ≡ true → has list fs ≡ true
+    go ih true q k = has-among e list fs (w e (inl refl)) (eqb-true (e .list) list q)
+    go ih false q k = ih k
+
+pub decision-same : (es fs : List Entry) → Within es fs → Within fs es → decision es ≡ decision fs
+unfolding decision mostSpecific byPriority
+decision-same es fs w v =
+    let gw = longest-within groupLength es fs w v in
+    let gv = longest-within groupLength fs es v w in
+    let mw = longest-within sourceLength _ _ gw gv in
+    let mv = longest-within sourceLength _ _ gv gw in
+    let same : (l : ℕ) → has l (withLongest sourceLength (withLongest groupLength es)) ≡ has l (withLongest sourceLength (withLongest groupLength fs)) = λ l. same-by _ _ (has-within l _ _ mw) (has-within l _ _ mv) in
+    rw (same 2, same 3, same 1)
+
+pub laws : Laws
+unfolding ofLongestGroup withLongest listDecision
+laws =
+    record {
+      one-length = one;
+      unsourced = λ t n f z. one t n f 0 (some-from groupLength 0 _ _ (all-matching f z t (min n 128)));
+      any-rows = λ t t′ n n′ f w v. decision-same (matching t f (min n 128)) (matching t′ f (min n′ 128)) w v;
+    }
