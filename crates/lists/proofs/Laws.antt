@@ -1,7 +1,7 @@
 -- What follows from the rule (specs/Laws.antt).
 --     laws     the statements
 -- Assumes nothing.
-use Prim.Native.Nat.{ℕ, zero, suc, _≤_, max, min}
+use Prim.Native.Nat.{ℕ, zero, suc, _≤_, min}
 use mathlib.Core.Path.{_≡_, refl, sym, ap, _∙_}
 use mathlib.Core.Logic.{_⊎_, inl, inr, ⊎-elim}
 use mathlib.Core.Bool.{Bool, true, false, cond, _||_, or-true, false≢true}
@@ -17,56 +17,6 @@ use Rattle.lists.specs.Lists.{entryAt, entryMatches, matching, groupLeng
 use Rattle.lists.specs.Laws.{ofLongestGroup, groupDecision, EachFrom, Laws}
 use Rattle.lists.specs.declared.Entry.{Entry}
 
--- ---- entries of one source length
-all-of : (s : ℕ) (es : List Entry) → EachFrom s es → ofLength sourceLength s es ≡ es
-unfolding EachFrom ofLength
-all-of s [] h = refl
-all-of s (e ∷ es) h = rw (eq-eqb (sourceLength e) s (h .0)) (ap (λ (r : List Entry). e ∷ r) (all-of s es (h .1)))
-
-no-longer : (s : ℕ) (es : List Entry) → EachFrom s es → longest sourceLength es ≤ s
-unfolding EachFrom longest
-no-longer s [] h = omega arith
-no-longer s (e ∷ es) h = omega (arith, h .0, no-longer s es (h .1))
-
--- all of them have the longest
-all-longest : (s : ℕ) (es : List Entry) → EachFrom s es → withLongest sourceLength es ≡ es
-unfolding EachFrom longest ofLength withLongest
-all-longest s [] h = refl
-all-longest s (e ∷ es) h =
-    let m : max (sourceLength e) (longest sourceLength es) ≡ s = omega (arith, h .0, no-longer s es (h .1)) in
-    rw m (rw (eq-eqb (sourceLength e) s (h .0)) (ap (λ (r : List Entry). e ∷ r) (all-of s es (h .1))))
-
-one : (t : List ℕ) (n : ℕ) (f : Flow) (s : ℕ) → EachFrom s (ofLongestGroup t n f) → listDecision t n f ≡ groupDecision t n f
-unfolding listDecision decision mostSpecific groupDecision ofLongestGroup
-one t n f s h = ap byPriority (all-longest s (withLongest groupLength (matching t f (min n 128))) h)
-
--- ---- a flow without a source is matched by source length 0 alone
-module _ (f : Flow) (z : f .sourced ≡ 0) where
-  from-none : (e : Entry) → entryMatches e f ≡ true → sourceLength e ≡ 0
-  unfolding entryMatches
-  from-none e m =
-      let last = each (eqb (e .family) (f .family) ∷ prefixMatches (e .«group_length») (e .group) (f .group)
-      ∷ cond (eqb (f .sourced) 0) (eqb (e .«source_length») 0) (prefixMatches (e .«source_length») (e .source) (f .source)) ∷ []) m .1 .1 .0 in
-      eqb-true (e .«source_length») 0 (taken (eqb (f .sourced) 0) (eqb (e .«source_length») 0) _ (eq-eqb (f .sourced) 0 z) ∙ last)
-
-  all-matching : (t : List ℕ) (n : ℕ) → EachFrom 0 (matching t f n)
-  unfolding matching EachFrom
-  all-matching t zero = tt
-  all-matching t (suc n) = go (all-matching t n) (entryMatches (entryAt t n) f) refl
-    where
-      go : EachFrom 0 (matching t f n) → (b : Bool) → entryMatches (entryAt t n) f ≡ b → EachFrom 0 (cond b (entryAt t n ∷ matching t f n) (matching t f n))
-      go rest true m = (from-none (entryAt t n) m, rest)
-      go rest false m = rest
-
-some-from : (length : Entry → ℕ) (s k : ℕ) (es : List Entry) → EachFrom s es → EachFrom s (ofLength length k es)
-unfolding EachFrom ofLength
-some-from length s k [] h = tt
-some-from length s k (e ∷ es) h = go (some-from length s k es (h .1)) (eqb (length e) k)
-  where
-    go : EachFrom s (ofLength length k es) → (b : Bool) → EachFrom s (cond b (e ∷ ofLength length k es) (ofLength length k es))
-    go rest true = (h .0, rest)
-    go rest false = rest
-
 -- ---- entries as such, wherever they stand
 abbrev Within : List Entry → List Entry → Type 0
 Within es fs = (e : Entry) → Among e es → Among e fs
@@ -81,10 +31,13 @@ module _ (length : Entry → ℕ) where
   among-le e [] a = absurd a
   among-le e (x ∷ es) a = ⊎-elim (λ (p : e ≡ x). omega (arith, ap length p)) (λ (b : Among e es). omega (arith, among-le e es b)) a
 
-  longest-le : (es fs : List Entry) → Within es fs → longest length es ≤ longest length fs
+  longest-under : (m : ℕ) (es : List Entry) → ((e : Entry) → Among e es → length e ≤ m) → longest length es ≤ m
   unfolding Among longest
-  longest-le [] fs w = omega arith
-  longest-le (e ∷ es) fs w = omega (arith, among-le e fs (w e (inl refl)), longest-le es fs (rest-within e es fs w))
+  longest-under m [] h = omega arith
+  longest-under m (e ∷ es) h = omega (arith, h e (inl refl), longest-under m es (λ x a. h x (inr a)))
+
+  longest-le : (es fs : List Entry) → Within es fs → longest length es ≤ longest length fs
+  longest-le es fs w = longest-under (longest length fs) es (λ e a. among-le e fs (w e a))
 
   of-length-in : (e : Entry) (n : ℕ) (es : List Entry) → Among e (ofLength length n es) → Among e es × (length e ≡ n)
   unfolding Among ofLength
@@ -129,21 +82,51 @@ has-within list (e ∷ es) fs w h = go (has-within list es fs (rest-within e es 
     go ih true q k = has-among e list fs (w e (inl refl)) (eqb-true (e .list) list q)
     go ih false q k = ih k
 
-pub decision-same : (es fs : List Entry) → Within es fs → Within fs es → decision es ≡ decision fs
-unfolding decision mostSpecific byPriority
-decision-same es fs w v =
+priority-same : (es fs : List Entry) → Within es fs → Within fs es → byPriority es ≡ byPriority fs
+unfolding byPriority
+priority-same es fs w v =
+    let same : (l : ℕ) → has l es ≡ has l fs = λ l. same-by _ _ (has-within l es fs w) (has-within l fs es v) in
+    rw (same 2, same 3, same 1)
+
+any-rows : (es fs : List Entry) → Within es fs → Within fs es → decision es ≡ decision fs
+unfolding decision mostSpecific
+any-rows es fs w v =
     let gw = longest-within groupLength es fs w v in
     let gv = longest-within groupLength fs es v w in
-    let mw = longest-within sourceLength _ _ gw gv in
-    let mv = longest-within sourceLength _ _ gv gw in
-    let same : (l : ℕ) → has l (withLongest sourceLength (withLongest groupLength es)) ≡ has l (withLongest sourceLength (withLongest groupLength fs)) = λ l. same-by _ _ (has-within l _ _ mw) (has-within l _ _ mv) in
-    rw (same 2, same 3, same 1)
+    priority-same _ _ (longest-within sourceLength _ _ gw gv) (longest-within sourceLength _ _ gv gw)
+
+-- ---- entries of one source length: all of them have the longest
+one-length : (t : List ℕ) (n : ℕ) (f : Flow) (s : ℕ) → EachFrom s (ofLongestGroup t n f) → listDecision t n f ≡ groupDecision t n f
+unfolding listDecision decision mostSpecific groupDecision ofLongestGroup withLongest
+one-length t n f s h =
+    let gs = ofLongestGroup t n f in
+    priority-same _ gs (λ e a. of-length-in sourceLength e _ gs a .0)
+    (λ e a. of-length-out sourceLength e _ gs a (omega (arith, h e a, among-le sourceLength e gs a, longest-under sourceLength s gs (λ x b. omega (arith, h x b)))))
+
+-- ---- a flow without a source is matched by source length 0 alone
+module _ (f : Flow) (z : f .sourced ≡ 0) where
+  from-nowhere : (e : Entry) → entryMatches e f ≡ true → sourceLength e ≡ 0
+  unfolding entryMatches
+  from-nowhere e m =
+      let last = each (eqb (e .family) (f .family) ∷ prefixMatches (e .«group_length») (e .group) (f .group)
+      ∷ cond (eqb (f .sourced) 0) (eqb (e .«source_length») 0) (prefixMatches (e .«source_length») (e .source) (f .source)) ∷ []) m .1 .1 .0 in
+      eqb-true (e .«source_length») 0 (taken (eqb (f .sourced) 0) (eqb (e .«source_length») 0) _ (eq-eqb (f .sourced) 0 z) ∙ last)
+
+  all-matching : (t : List ℕ) (n : ℕ) → EachFrom 0 (matching t f n)
+  unfolding matching Among
+  all-matching t zero e a = absurd a
+  all-matching t (suc n) e a = go (all-matching t n e) (entryMatches (entryAt t n) f) refl a
+    where
+      go : (Among e (matching t f n) → sourceLength e ≡ 0) → (b : Bool) → entryMatches (entryAt t n) f ≡ b
+          → Among e (cond b (entryAt t n ∷ matching t f n) (matching t f n)) → sourceLength e ≡ 0
+      go rest true m a = ⊎-elim (λ (p : e ≡ entryAt t n). ap sourceLength p ∙ from-nowhere (entryAt t n) m) rest a
+      go rest false m a = rest a
 
 pub laws : Laws
 unfolding ofLongestGroup withLongest listDecision
 laws =
     record {
-      one-length = one;
-      unsourced = λ t n f z. one t n f 0 (some-from groupLength 0 _ _ (all-matching f z t (min n 128)));
-      any-rows = λ t t′ n n′ f w v. decision-same (matching t f (min n 128)) (matching t′ f (min n′ 128)) w v;
+      one-length = one-length;
+      unsourced = λ t n f z. one-length t n f 0 (λ e a. all-matching f z t (min n 128) e (of-length-in groupLength e _ _ a .0));
+      any-rows = λ t t′ n n′ f w v. any-rows (matching t f (min n 128)) (matching t′ f (min n′ 128)) w v;
     }

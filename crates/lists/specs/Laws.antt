@@ -1,7 +1,7 @@
 -- What follows from the rule. Statements, owed by the contract of `lists::decision_of`.
 use Prim.Native.Nat.{ℕ, min}
 use mathlib.Core.Path.{_≡_}
-use mathlib.Core.List.{List, [], _∷_}
+use mathlib.Core.List.{List}
 use Rattle.octets.specs.Members.{Among}
 use Rattle.flows.specs.declared.Flow.{Flow}
 use Rattle.lists.specs.Lists.{matching, groupLength, sourceLength, withLongest, byPriority, listDecision}
@@ -17,9 +17,8 @@ unfoldable pub groupDecision : List ℕ → ℕ → Flow → Decision
 groupDecision t n f = byPriority (ofLongestGroup t n f)
 
 -- each of some entries has a source prefix of s bits
-unfoldable pub EachFrom : ℕ → List Entry → Type 0
-EachFrom s [] = Unit {0}
-EachFrom s (e ∷ es) = (sourceLength e ≡ s) × EachFrom s es
+abbrev pub EachFrom : ℕ → List Entry → Type 0
+EachFrom s es = (e : Entry) → Among e es → sourceLength e ≡ s
 
 pub record Laws : Type 0 where
   -- where the matching entries of the longest group prefix have one source length, the source decides nothing
