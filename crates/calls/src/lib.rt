@@ -28,7 +28,7 @@ pub const MESSAGE: u8 = 255;
 
 // Which call, with its arguments. `amount` is the delegation that is set, or what is required when the host asks.
 #[repr(C)]
-#[derive(Drop)]
+#[derive(Clone, Copy)]
 pub struct HostCall {
     pub which: u8,
     pub port: usize,

@@ -13,7 +13,7 @@ use ports::{Change, Counter, Port};
 // The head: all that is neither a port's nor a flow record's. It goes through every call whole, so that a number more
 // in it touches no function that hands it on.
 #[repr(C)]
-#[derive(Drop)]
+#[derive(Clone, Copy)]
 pub struct CardHead {
     pub port_count: usize,
     pub channel_count: usize,
@@ -26,7 +26,7 @@ pub struct CardHead {
 // What the host keeps of a card in one struct. Large state is lent beside it, an array each (the definitions' `Areas`:
 // none yet), and so are the start's tables, with each call that needs them.
 #[repr(C)]
-#[derive(Drop)]
+#[derive(Clone, Copy)]
 pub struct Core {
     pub ports: [Port; 64],
     pub pool: Pool,
@@ -36,7 +36,7 @@ pub struct Core {
 // What a call on a core by value returns: the core after it, the call's number, and how many octets of reply
 // are written.
 #[repr(C)]
-#[derive(Drop)]
+#[derive(Clone, Copy)]
 pub struct Returned {
     pub core: Core,
     pub number: u8,
@@ -47,7 +47,7 @@ pub struct Returned {
 // port's record, which lies at `at` in the table. A call about no port or about several does not look at it, and keeps
 // it.
 #[repr(C)]
-#[derive(Drop)]
+#[derive(Clone, Copy)]
 pub struct Terms {
     pub at: usize,
     pub head: CardHead,
@@ -57,7 +57,7 @@ pub struct Terms {
 // What a call on lent maps gives: the call's number, how many octets of reply are written, the head after it,
 // and what becomes of the port's record.
 #[repr(C)]
-#[derive(Drop)]
+#[derive(Clone, Copy)]
 pub struct Effect {
     pub number: u8,
     pub length: usize,
@@ -67,7 +67,7 @@ pub struct Effect {
 
 // What a start gives: a core, and its number.
 #[repr(C)]
-#[derive(Drop)]
+#[derive(Clone, Copy)]
 pub struct Fresh {
     pub core: Core,
     pub number: u8,

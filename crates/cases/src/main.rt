@@ -5,7 +5,7 @@ use card::{Core, Returned};
 use flows::Flow;
 
 // 64 ports, named by one octet each; 20 IPv4 groups of rate 1000, the last of 1001; all white by 224.0.0.0/4 but two, which are grey and black.
-#[derive(Drop)]
+#[derive(Clone, Copy)]
 struct Tables {
     ids: [u8; 4096],
     channels: [u32; 2816],

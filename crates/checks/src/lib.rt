@@ -15,7 +15,7 @@ use rows::Found;
 use rules::Extent;
 use tlv::First;
 
-#[derive(Drop)]
+#[derive(Clone, Copy)]
 pub enum Verdict {
     // The result code of the row that refuses the message.
     Refused(u16),

@@ -5,7 +5,7 @@ use hex::Reading;
 
 // What is next: nothing to play; the end; a call, with its verb, where that stands, and how many octets it has; or where
 // the line is wrong, and why.
-#[derive(Drop)]
+#[derive(Clone, Copy)]
 pub enum Next {
     Pass,
     Stop,

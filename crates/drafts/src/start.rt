@@ -2,7 +2,7 @@
 use calls::HostCall;
 use card::Core;
 
-#[derive(Drop)]
+#[derive(Clone, Copy)]
 pub struct Tables {
     pub ids: [u8; 4096],
     pub channels: [u32; 2816],

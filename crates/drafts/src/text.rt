@@ -3,7 +3,7 @@ ghost use Rattle.std.specs.Prelude.{◌≤◌, length};
 
 // n characters and a line end, n characters and the script's end, more characters than there is room for, or a read that
 // failed.
-#[derive(Drop)]
+#[derive(Clone, Copy)]
 pub enum Line {
     Ended(usize),
     Last(usize),

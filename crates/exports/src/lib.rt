@@ -124,7 +124,7 @@ pub extern "C" fn ancp_start_fault(
 
 // The call's number, and how many octets of reply are written.
 #[repr(C)]
-#[derive(Drop)]
+#[derive(Clone, Copy)]
 pub struct Answer {
     pub number: u8,
     pub length: usize,

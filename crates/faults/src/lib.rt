@@ -14,7 +14,7 @@ use tables::{known_list, within_address};
 // Fields: 1 count, 2 length of an id, 3 the same as an earlier row, 4 rate, 5 family, 6 group, 7 source, 8 list, 9 and 10
 // prefix length of the group and of the source, 11 number. Of a count and of the first number the row is 0.
 #[repr(C)]
-#[derive(Drop)]
+#[derive(Clone, Copy)]
 pub struct Fault {
     pub row: usize,
     pub table: u8,

@@ -36,7 +36,7 @@ pub fn circuit_id<'a>(c: &'a [u8]) -> &'a [u8]
 
 // Status-Info: the type of the message that it speaks of, and the length of its error text.
 #[repr(C)]
-#[derive(Drop)]
+#[derive(Clone, Copy)]
 pub struct Status {
     pub kind: u8,
     pub text: u16,
@@ -65,7 +65,7 @@ pub fn status_tlvs<'a>(c: &'a [u8]) -> &'a [u8]
 }
 
 #[repr(C)]
-#[derive(Drop)]
+#[derive(Clone, Copy)]
 pub struct Command {
     pub code: u8,
     pub accounting: u8,
@@ -93,7 +93,7 @@ pub fn allocation_in(c: &[u8]) -> u32
 }
 
 #[repr(C)]
-#[derive(Drop)]
+#[derive(Clone, Copy)]
 pub struct Request {
     pub required: u32,
     pub preferred: u32,
@@ -131,7 +131,7 @@ pub fn length_ok(kind: u16, c: &[u8]) -> bool
 
 // Multicast-Flow: flow type, family, source count, and whether the length agrees with them.
 #[repr(C)]
-#[derive(Drop)]
+#[derive(Clone, Copy)]
 pub struct FlowFields {
     pub kind: u8,
     pub family: u8,

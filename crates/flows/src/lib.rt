@@ -11,7 +11,7 @@ pub const IPV6: u32 = 2;
 // first and the others zero. `sourced` is 1 where there is a source and 0 where there is none. The fields hold anything:
 // `good_flow` tells which of their values are a flow's.
 #[repr(C)]
-#[derive(Drop)]
+#[derive(Clone, Copy)]
 pub struct Flow {
     pub family: u32,
     pub sourced: u32,
@@ -19,7 +19,7 @@ pub struct Flow {
     pub source: [u32; 4],
 }
 
-#[derive(Drop)]
+#[derive(Clone, Copy)]
 pub enum Order {
     Before,
     Equal,

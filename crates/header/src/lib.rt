@@ -7,7 +7,7 @@ ghost use Rattle.header.specs.Header.{size_ok, usable, header_in, head_in, heade
 
 // What a header says beside what every usable one says alike.
 #[repr(C)]
-#[derive(Drop)]
+#[derive(Clone, Copy)]
 pub struct Header {
     pub kind: u8,
     pub result: u8,
@@ -16,7 +16,7 @@ pub struct Header {
     pub transaction: u32,
 }
 
-#[derive(Drop)]
+#[derive(Clone, Copy)]
 pub enum Head {
     Unusable,
     Usable(Header),

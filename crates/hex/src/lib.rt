@@ -4,7 +4,7 @@ ghost use Rattle.octets.specs.Writing.{over};
 ghost use Rattle.hex.specs.Hex.{value_of, digits_in, octets_in, reading_of, left_by};
 
 // What reading a text comes to: how many octets it stands for, or why not, with the place in the text.
-#[derive(Drop)]
+#[derive(Clone, Copy)]
 pub enum Reading {
     Octets(usize),
     NoDigit(usize),

@@ -18,7 +18,7 @@ pub const BLACK: u32 = 2;
 
 pub const GREY: u32 = 3;
 
-#[derive(Drop)]
+#[derive(Clone, Copy)]
 pub struct Entry {
     pub family: u32,
     pub list: u32,
@@ -29,7 +29,7 @@ pub struct Entry {
 }
 
 // What an entry is compared by: its prefix lengths, and how strong its list is.
-#[derive(Drop)]
+#[derive(Clone, Copy)]
 struct Rank {
     group_length: u32,
     source_length: u32,
@@ -37,7 +37,7 @@ struct Rank {
 }
 
 // What the lists say of a flow; None where no entry matches.
-#[derive(Drop)]
+#[derive(Clone, Copy)]
 pub enum Decision {
     Black,
     Grey,

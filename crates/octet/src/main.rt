@@ -2,7 +2,7 @@
 // answer.
 
 // Which channels and lists the card has is the program's choice: none.
-#[derive(Drop)]
+#[derive(Clone, Copy)]
 struct Tables {
     ids: [u8; 4096],
     channels: [u32; 2816],

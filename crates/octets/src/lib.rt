@@ -1,3 +1,5 @@
+#![tactic(auto)]
+
 // Big-endian numbers, read from a slice and written over the start of one, and padding.
 ghost use Rattle.std.specs.Prelude.{◌≡◌, ◌++◌, ◌+◌, ◌*◌, ◌≤◌, ◌<◌, length, replicate};
 ghost use Rattle.octets.specs.Numbers.{be8, be16, be24, be32, oct8, oct16, oct24, oct32, padded};

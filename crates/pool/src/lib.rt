@@ -14,7 +14,7 @@ pub const FREE: u8 = 255;
 
 // Record i is what stands at i in each map. A freed record keeps all but its owner until it serves again.
 #[repr(C)]
-#[derive(Drop)]
+#[derive(Clone, Copy)]
 pub struct Pool {
     pub owner: [u8; 512],
     pub channel: [u8; 512],
@@ -24,7 +24,7 @@ pub struct Pool {
 
 // The channels of a port's flows: the first `count` of `rows`, and zeros after them.
 #[repr(C)]
-#[derive(Drop)]
+#[derive(Clone, Copy)]
 pub struct Rows {
     pub count: usize,
     pub rows: [u8; 16],
@@ -32,7 +32,7 @@ pub struct Rows {
 
 // What a port's flow of a channel has: its charge and its accounting. Where it is not active they are false and 0.
 #[repr(C)]
-#[derive(Drop)]
+#[derive(Clone, Copy)]
 pub struct FlowState {
     pub active: bool,
     pub charged: bool,

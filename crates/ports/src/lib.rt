@@ -5,7 +5,7 @@ ghost use Rattle.ports.specs.Transactions.{taken_from};
 
 // asking: a request is open, with its figures and its transaction number.
 #[repr(C)]
-#[derive(Drop)]
+#[derive(Clone, Copy)]
 pub struct Port {
     pub up: bool,
     pub asking: bool,
@@ -16,7 +16,7 @@ pub struct Port {
 }
 
 // What a call does to its port's record. A request is asked with required, preferred and its transaction number.
-#[derive(Drop)]
+#[derive(Clone, Copy)]
 pub enum Change {
     Kept,
     BroughtUp,
@@ -144,13 +144,13 @@ pub fn update_in(ports: [Port; 64], p: usize, c: Change) -> [Port; 64]
 }
 
 #[repr(C)]
-#[derive(Drop)]
+#[derive(Clone, Copy)]
 pub struct Counter {
     pub number: u32,
 }
 
 #[repr(C)]
-#[derive(Drop)]
+#[derive(Clone, Copy)]
 pub struct Taken {
     pub number: u32,
     pub next: Counter,

@@ -6,7 +6,7 @@ ghost use Rattle.reader.specs.Reader.{reader_at, advanced, step_at};
 
 use tlv::First;
 
-#[derive(Drop)]
+#[derive(Clone, Copy)]
 pub struct Reader<'a> {
     pub message: &'a [u8],
     pub at: usize,
@@ -37,7 +37,7 @@ pub fn advance<'a>(r: Reader<'a>) -> Reader<'a>
 }
 
 // One read: what stood at the reader's place, and the place that it has then.
-#[derive(Drop)]
+#[derive(Clone, Copy)]
 pub struct Step {
     pub first: First,
     pub next: usize,

@@ -34,7 +34,7 @@ pub fn delegation(x: Port, count: usize, p: usize) -> u32
 
 // asking: a request is open, with its figures and its transaction number. Else these are 0.
 #[repr(C)]
-#[derive(Drop)]
+#[derive(Clone, Copy)]
 pub struct Request {
     pub asking: bool,
     pub required: u32,

@@ -12,7 +12,7 @@ use tlv::First;
 
 // The rule for the TLVs of type `kind` in a message: `needed`, one of them or of type `instead` must stand; `single`, no
 // second one may.
-#[derive(Drop)]
+#[derive(Clone, Copy)]
 pub struct Rule {
     pub kind: u16,
     pub instead: u16,
@@ -21,7 +21,7 @@ pub struct Rule {
 }
 
 // The rules of a message type: the first `count`, field by field.
-#[derive(Drop)]
+#[derive(Clone, Copy)]
 pub struct Rules {
     pub count: usize,
     pub kinds: [u16; 4],
@@ -202,7 +202,7 @@ fn put_if_missing(buf: &mut [u8], r: Rule, tlvs: &[u8]) -> usize
 
 // How far a message's TLVs are as its rules ask: all of them, and none is missing; or up to a place, that of the first
 // TLV at fault, or where they end if none is at fault and one is missing.
-#[derive(Drop)]
+#[derive(Clone, Copy)]
 pub enum Extent {
     All,
     UpTo(usize),

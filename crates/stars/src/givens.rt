@@ -3,7 +3,7 @@ use calls::HostCall;
 use card::{Core, Returned};
 use flows::Flow;
 
-#[derive(Drop)]
+#[derive(Clone, Copy)]
 pub struct Tables {
     pub ids: [u8; 4096],
     pub channels: [u32; 2816],

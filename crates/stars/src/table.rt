@@ -1,7 +1,7 @@
 // The rows of the table.
 
 // What the card has of port 0 before the call, and the extras of all ports.
-#[derive(Drop)]
+#[derive(Clone, Copy)]
 pub struct Given {
     pub delegation: u32,
     pub committed: u64,
@@ -11,7 +11,7 @@ pub struct Given {
 
 // What is read of a case: the call's number; the reply's Result, code, amount and transaction; then port 0's delegation,
 // whether the flow of a join is active there, and the next transaction number.
-#[derive(Drop)]
+#[derive(Clone, Copy)]
 pub struct Shown {
     pub number: u8,
     pub result: u8,

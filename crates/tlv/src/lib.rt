@@ -3,7 +3,7 @@ ghost use Rattle.std.specs.Prelude.{◌≡◌, ◌+◌, ◌≤◌};
 ghost use Rattle.tlv.specs.First.{first_tlv};
 ghost use Rattle.tlv.specs.Depth.{depth_of, status_inside, inside_of, inside_ok, list_ok};
 
-#[derive(Drop)]
+#[derive(Clone, Copy)]
 pub enum First {
     // The list is at its end.
     End,
@@ -49,7 +49,7 @@ pub fn depth_of(res: u8) -> u8
 }
 
 // Where a TLV's content holds further TLVs.
-#[derive(Drop)]
+#[derive(Clone, Copy)]
 pub enum Inside {
     // Nowhere.
     Plain,

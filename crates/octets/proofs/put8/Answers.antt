@@ -1,0 +1,10 @@
+use native.Mathlib.Omega.{arith}
+use lib.ListN.{length-set}
+use Rattle.octets.specs.Numbers.{oct8}
+use Rattle.octets.proofs.Writing.{stores}
+use borrow.Author.Rules.{rules}
+use Rattle.octets.proofs.put8.Goals as goal
+
+pub returns : goal.returns
+unfolding oct8
+returns c = stores (oct8 c.args.x) _ c.requires
