@@ -9,7 +9,7 @@
 -- Assumes nothing.
 use Prim.Native.Nat.{ℕ, suc, ◌+◌, ◌-◌, ◌*◌, ◌%◌, ◌≤◌, ◌<◌, min}
 use mathlib.Core.Path.{◌≡◌, refl, sym, ap, ap₂, ◌∙◌}
-use mathlib.Core.Bool.{Bool, false, ◌&&◌, and_true, and_false, false≢true}
+use mathlib.Core.Bool.{Bool, false, ◌&&◌, and-true, and-false, false≢true}
 use mathlib.Core.List.{List, [], ◌∷◌}
 use lib.ListN.{length, take, drop, get_or, length-take, length-drop}
 use lib.Seq.{take-suc, length-take-le, get_or-take, get_or-drop}
@@ -34,13 +34,13 @@ module _ (a b : List ℕ) (i : ℕ) (ha : i < length a) (hb : i < length b) wher
   last =
       ap₂ same (take-suc a i 0 ha) (take-suc b i 0 hb)
       ∙ same-append (take i a) (take i b) (get_or a i 0 ∷ []) (get_or b i 0 ∷ []) (length-take-le i a (omega arith) ∙ sym (length-take-le i b (omega arith)))
-      ∙ ap (λ (t : Bool). same (take i a) (take i b) && t) (and_true (eqb (get_or a i 0) (get_or b i 0)))
+      ∙ ap (λ (t : Bool). same (take i a) (take i b) && t) (and-true (eqb (get_or a i 0) (get_or b i 0)))
 
   pub back_on : get_or a i 0 ≡ get_or b i 0 → same (take (suc i) a) (take (suc i) b) ≡ same (take i a) (take i b)
-  back_on e = last ∙ simp (eq-eqb (get_or a i 0) (get_or b i 0) e, and_true)
+  back_on e = last ∙ simp (eq-eqb (get_or a i 0) (get_or b i 0) e, and-true)
 
   pub back-off : (get_or a i 0 ≡ get_or b i 0 → ⊥) → same (take (suc i) a) (take (suc i) b) ≡ false
-  back-off e = last ∙ simp (ne_eqb (get_or a i 0) (get_or b i 0) e, and_false)
+  back-off e = last ∙ simp (ne_eqb (get_or a i 0) (get_or b i 0) e, and-false)
 
 pub same_none : (a b : List ℕ) → length b < 1 → ltb (length a) 1 ≡ same a b
 unfolding same

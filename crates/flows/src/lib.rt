@@ -1,3 +1,5 @@
+#![tactic(auto)]
+
 // A flow: family, group, and source or none (CARD.md, "Flows and lists"): equality, good addresses, order.
 ghost use Rattle.std.specs.Prelude.{◌≡◌, ◌≤◌};
 ghost use Rattle.flows.specs.Words.{same, zero_from, word_order, words_order, or_else};

@@ -1,3 +1,5 @@
+#![tactic(auto)]
+
 // The header of a message: read, and written.
 ghost use Rattle.std.specs.Prelude.{◌≡◌, ◌++◌, ◌≤◌, ◌<◌, length};
 ghost use Rattle.octets.specs.Numbers.{oct8, oct24};

@@ -14,24 +14,24 @@ use borrow.Author.Tests.{lt-ltb, le-ltb, ltb-true}
 use Rattle.pool.specs.Pool.{count_in, extras_in, room_for, free_in, room_in}
 
 module _ (owner : List ℕ) (p : ℕ) {i : ℕ} (e : i ≡ free_in owner) where
-  and_false : (b : Bool) → false ≡ (b && false)
-  and_false true = refl
-  and_false false = refl
+  and-false : (b : Bool) → false ≡ (b && false)
+  and-false true = refl
+  and-false false = refl
 
-  and_true : (b : Bool) → b ≡ (b && true)
-  and_true true = refl
-  and_true false = refl
+  and-true : (b : Bool) → b ≡ (b && true)
+  and-true true = refl
+  and-true false = refl
 
   -- no record is free
   pub room_none : 512 ≤ i → false ≡ room_in owner p
   unfolding room_in
-  room_none h = and_false (room_for (count_in owner p) (extras_in owner)) ∙ ap (λ (b : Bool). room_for (count_in owner p) (extras_in owner) && b) (sym (le-ltb (free_in owner) 512 (omega arith)))
+  room_none h = and-false (room_for (count_in owner p) (extras_in owner)) ∙ ap (λ (b : Bool). room_for (count_in owner p) (extras_in owner) && b) (sym (le-ltb (free_in owner) 512 (omega arith)))
 
   module _ (h : i < 512) {n : ℕ} (count : n ≡ count_in owner p) where
     rule : room_for n (extras_in owner) ≡ room_in owner p
     unfolding room_in
     rule =
-        ap (λ (m : ℕ). room_for m (extras_in owner)) count ∙ and_true (room_for (count_in owner p) (extras_in owner))
+        ap (λ (m : ℕ). room_for m (extras_in owner)) count ∙ and-true (room_for (count_in owner p) (extras_in owner))
         ∙ ap (λ (b : Bool). room_for (count_in owner p) (extras_in owner) && b) (sym (lt-ltb (free_in owner) 512 (omega arith)))
 
     pub room_four : n < 4 → true ≡ room_in owner p

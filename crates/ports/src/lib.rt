@@ -1,3 +1,5 @@
+#![tactic(auto)]
+
 // One port's record, and the transaction counter.
 ghost use Rattle.std.specs.Prelude.{◌≡◌, ◌<◌, set, get_or};
 ghost use Rattle.ports.specs.Ports.{fresh_port, closed, brought_up, taken_down, delegated, asked, changed_by, may_ask, answers, within};

@@ -42,11 +42,11 @@ module _ (test : ℕ → Bool) where
 
   pub none_on : (i : ℕ) → test i ≡ false → none_of i test ≡ none_of (i + 1) test
   unfolding none_of all_of
-  none_on i t = and_true (all_of i (λ j. not (test j))) ∙ ap (λ (b : Bool). all_of i (λ j. not (test j)) && not b) (sym t) ∙ ap (λ (n : ℕ). all_of n (λ j. not (test j))) (sym (add-one i))
+  none_on i t = and-true (all_of i (λ j. not (test j))) ∙ ap (λ (b : Bool). all_of i (λ j. not (test j)) && not b) (sym t) ∙ ap (λ (n : ℕ). all_of n (λ j. not (test j))) (sym (add-one i))
     where
-      and_true : (b : Bool) → b ≡ (b && true)
-      and_true true = refl
-      and_true false = refl
+      and-true : (b : Bool) → b ≡ (b && true)
+      and-true true = refl
+      and-true false = refl
 
 -- ---- a search that has passed the rows before i
 module _ (word : ℕ → ℕ) (x from : ℕ) where

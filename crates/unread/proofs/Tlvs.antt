@@ -5,7 +5,7 @@
 -- Assumes nothing.
 use Prim.Native.Nat.{ℕ, zero, suc, ◌+◌}
 use mathlib.Core.Path.{◌≡◌, refl, sym, ap, ap₂, ◌∙◌}
-use mathlib.Core.Bool.{Bool, true, false, cond, ◌&&◌, and_false}
+use mathlib.Core.Bool.{Bool, true, false, cond, ◌&&◌, and-false}
 use mathlib.Core.List.{List, ◌∷◌, ◌++◌, append_assoc}
 use native.Mathlib.Omega.{arith}
 use lib.ListN.{length, take, drop, length-append}
@@ -100,12 +100,12 @@ module _ (inner : Bool → List ℕ → Bool) (b : Bool) where
 
   command-by : (c i : List ℕ) → eqb (length c) 0 ≡ false → leb 4 (length c) ≡ true → drop 4 c ≡ i → inside_ok inner b 0x0011 c ≡ inner false i
   unfolding inside_ok inside_of held_ok
-  command-by c i z f e = simp (z, f, and_false, e)
+  command-by c i z f e = simp (z, f, and-false, e)
 
   status-by : (c i : List ℕ) (n : ℕ) → eqb (length c) 0 ≡ false → be16 c 2 ≡ n → leb (4 + padded n) (length c) ≡ true → drop (4 + padded n) c ≡ i
       → inside_ok inner b 0x0106 c ≡ inner true i
   unfolding inside_ok inside_of status_inside held_ok
-  status-by c i n z e f g = simp (z, e, f, and_false, g)
+  status-by c i n z e f g = simp (z, e, f, and-false, g)
 
   command_is : (code accounting x y : ℕ) (i : List ℕ) → inside_ok inner b 0x0011 (code ∷ accounting ∷ x ∷ y ∷ i) ≡ inner false i
   command_is code accounting x y i =

@@ -1,3 +1,5 @@
+#![tactic(auto)]
+
 // Writers of TLVs. Each writes over the start of the buffer that it is lent, keeps what lies after it, and returns how many octets it wrote,
 // so that the rest of the buffer can be lent to the next writer.
 ghost use Rattle.std.specs.Prelude.{◌≡◌, ◌+◌, ◌≤◌, ◌<◌, length};

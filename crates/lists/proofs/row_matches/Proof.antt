@@ -1,5 +1,5 @@
 use mathlib.Core.Path.{◌≡◌, refl, sym, ◌∙◌}
-use mathlib.Core.Bool.{Bool, true, false, and_true}
+use mathlib.Core.Bool.{Bool, true, false, and-true}
 use mathlib.Core.List.{List, ◌∷◌}
 use Prim.Native.Nat.{◌+◌, ◌*◌}
 use lib.ListN.{get_or}
@@ -37,7 +37,7 @@ returns-3 c =
 
 returns-4 : tie.Need-returns-4
 unfolding entry_at entry_matches every
-returns-4 c = simp (eq-eqb _ _ c.before.before.before.before.before.if2.false, sym c.before.before.before.before.before.before.before.before.before.prefix-at.ensures ∙ not-false _ c.before.before.before.before.before.before.before.before.if1.false, ne_eqb _ _ c.before.before.before.if3.false, and_true) c.prefix-at2.ensures
+returns-4 c = simp (eq-eqb _ _ c.before.before.before.before.before.if2.false, sym c.before.before.before.before.before.before.before.before.before.prefix-at.ensures ∙ not-false _ c.before.before.before.before.before.before.before.before.if1.false, ne_eqb _ _ c.before.before.before.if3.false, and-true) c.prefix-at2.ensures
 
 pub row-matches-spec : {M : Type 1} → statement M
 row-matches-spec =

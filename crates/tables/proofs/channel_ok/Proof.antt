@@ -1,5 +1,5 @@
 use mathlib.Core.Path.{sym, ap, ◌∙◌}
-use mathlib.Core.Bool.{and_true}
+use mathlib.Core.Bool.{and-true}
 use native.Mathlib.Omega.{arith}
 use borrow.Author.Tests.{le-leb, lt-leb, not-true, not-false}
 use Rattle.octets.specs.Tests.{every}
@@ -30,7 +30,7 @@ returns-4 : tie.Need-returns-4
 unfolding channel_ok every
 returns-4 c =
     let a = c.before.before.before.before.before.before.before.before.args in
-    simp (le-leb 1 (rate_at a.channels.now a.i) (omega arith), le-leb (rate_at a.channels.now a.i) 10000000 (omega arith), ap good_flow (sym c.before.before.before.before.channel_place.ensures) ∙ sym c.before.before.before.good-flow.ensures ∙ not-false _ c.before.before.if3.false, and_true)
+    simp (le-leb 1 (rate_at a.channels.now a.i) (omega arith), le-leb (rate_at a.channels.now a.i) 10000000 (omega arith), ap good_flow (sym c.before.before.before.before.channel_place.ensures) ∙ sym c.before.before.before.good-flow.ensures ∙ not-false _ c.before.before.if3.false, and-true)
     (c.is-nothing.ensures ∙ ap is_nothing (c.before.channel-of.ensures ∙ ap (channel_of a.channels.now a.i) c.before.before.before.before.channel_place.ensures) ∙ unused_channel a.channels.now (channel_at a.channels.now a.i) a.i (omega arith))
 
 pub channel-ok-spec : {M : Type 1} → statement M

@@ -1,5 +1,5 @@
 use mathlib.Core.Path.{sym, ◌∙◌}
-use mathlib.Core.Bool.{and_true}
+use mathlib.Core.Bool.{and-true}
 use borrow.Author.Tests.{not-true, not-false}
 use Rattle.octets.specs.Tests.{every}
 use Rattle.tables.specs.Tables.{entry_ok}
@@ -21,7 +21,7 @@ returns-3 c = simp (sym c.before.before.before.before.before.known-family.ensure
 
 returns-4 : tie.Need-returns-4
 unfolding entry_ok every
-returns-4 c = simp (sym c.before.before.before.before.before.before.known-family.ensures ∙ not-false _ c.before.before.before.before.before.if1.false, sym c.before.before.before.before.known-list.ensures ∙ not-false _ c.before.before.before.if2.false, sym c.before.before.within-address.ensures ∙ not-false _ c.before.if3.false, and_true) c.within-address2.ensures
+returns-4 c = simp (sym c.before.before.before.before.before.before.known-family.ensures ∙ not-false _ c.before.before.before.before.before.if1.false, sym c.before.before.before.before.known-list.ensures ∙ not-false _ c.before.before.before.if2.false, sym c.before.before.within-address.ensures ∙ not-false _ c.before.if3.false, and-true) c.within-address2.ensures
 
 pub entry-ok-spec : {M : Type 1} → statement M
 entry-ok-spec =

@@ -1,5 +1,5 @@
 use mathlib.Core.Path.{ap, ◌∙◌}
-use mathlib.Core.Bool.{and_true}
+use mathlib.Core.Bool.{and-true}
 use native.Mathlib.Omega.{arith}
 use borrow.Author.Tests.{le-leb, lt-leb}
 use Rattle.octets.specs.Tests.{every}
@@ -23,7 +23,7 @@ returns-3 : tie.Need-returns-3
 unfolding id_ok id_length every
 returns-3 c =
     let a = c.before.before.before.before.before.before.args in
-    simp (le-leb _ _ c.before.before.before.before.if1.false, le-leb _ _ c.before.before.before.if2.false, and_true)
+    simp (le-leb _ _ c.before.before.before.before.if1.false, le-leb _ _ c.before.before.before.if2.false, and-true)
     (c.is-nothing.ensures ∙ ap is_nothing (c.before.port-of.ensures ∙ ap (port_of a.ids.now a.p) c.before.before.id-at.ensures) ∙ unused_id a.ids.now (id_at a.ids.now a.p) a.p (omega arith))
 
 pub id-ok-spec : {M : Type 1} → statement M

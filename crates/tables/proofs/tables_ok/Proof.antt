@@ -1,5 +1,5 @@
 use mathlib.Core.Path.{sym, ◌∙◌}
-use mathlib.Core.Bool.{and_true}
+use mathlib.Core.Bool.{and-true}
 use borrow.Author.Tests.{not-true, not-false}
 use Rattle.octets.specs.Tests.{every}
 use Rattle.tables.specs.Tables.{tables_ok}
@@ -17,7 +17,7 @@ returns-2 c = simp (sym c.before.before.before.ids-ok.ensures ∙ not-false _ c.
 
 returns-3 : tie.Need-returns-3
 unfolding tables_ok every
-returns-3 c = simp (sym c.before.before.before.before.ids-ok.ensures ∙ not-false _ c.before.before.before.if1.false, sym c.before.before.channels-ok.ensures ∙ not-false _ c.before.if2.false, and_true) c.entries-ok.ensures
+returns-3 c = simp (sym c.before.before.before.before.ids-ok.ensures ∙ not-false _ c.before.before.before.if1.false, sym c.before.before.channels-ok.ensures ∙ not-false _ c.before.if2.false, and-true) c.entries-ok.ensures
 
 pub tables-ok-spec : {M : Type 1} → statement M
 tables-ok-spec =

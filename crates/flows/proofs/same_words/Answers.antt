@@ -1,0 +1,27 @@
+use borrow.Author.Rules.{rules}
+use mathlib.Core.Path.{◌≡◌, sym, ◌∙◌}
+use Prim.Native.Nat.{◌≤◌, ◌-◌}
+use native.Mathlib.Omega.{arith}
+use lib.ListN.{drop}
+use borrow.Author.Tests.{not-true, not-false, eqb-true, eqb-false}
+use Rattle.flows.specs.Words.{same}
+use Rattle.flows.proofs.Turns.{same-off, same_on, same_end}
+use Rattle.flows.proofs.same_words.Goals as goal
+
+pub returns-then-a-i : goal.returns-then-a-i
+returns-then-a-i c =
+    let h = c in
+    let a = h.args in
+    sym (h.loop-i.invariant.1 ∙ same-off h.loop-i.i a.a a.b (search rules) (search rules) (search (rules, eqb-true, eqb-false, not-true, not-false)))
+
+pub loop-i-preserved : goal.loop-i-preserved
+loop-i-preserved c =
+    let h = c in
+    let a = h.args in
+    (omega arith, h.loop-i.invariant.1 ∙ same_on h.loop-i.i a.a a.b (search rules) (search rules) (search (rules, eqb-true, eqb-false, not-true, not-false)))
+
+pub returns : goal.returns
+returns c =
+    let h = c in
+    let a = h.args in
+    sym (h.loop-i.invariant.1 ∙ same_end h.loop-i.i a.a a.b (omega (arith, h.well_formed.0.1)) (omega (arith, h.well_formed.1.0.1)))

@@ -1,0 +1,25 @@
+use native.Mathlib.Omega.{arith}
+use mathlib.Core.Path.{◌≡◌, sym, ap, ◌∙◌}
+use mathlib.Core.List.{List, ◌++◌}
+use Prim.Native.Nat.{ℕ, ◌+◌}
+use lib.ListN.{length, length-append}
+use Rattle.octets.specs.Numbers.{oct16}
+use Rattle.octets.specs.Writing.{over}
+use Rattle.octets.proofs.Numbers.{length-oct16}
+use Rattle.octets.proofs.Writing.{lent-before}
+use Rattle.writers.specs.Tlvs.{tlv_of}
+use Rattle.writers.proofs.Tlvs.{length-tlv, length-target, target-parts}
+use borrow.Author.Rules.{rules}
+use Rattle.writers.proofs.put_target.Goals as goal
+
+-- cast-put-pair : tie.Need-overflow-cast-put-pair
+-- cast-put-pair c = omega (arith, c.before.before.before.put-tlv.ensures.size, length-tlv 1 c.before.before.before.before.before.before.before.args.id.now, c.before.before.before.before.before.before.before.requires)
+-- add-result : tie.Need-overflow-add-result
+-- add-result c = omega (arith, c.before.before.before.before.before.before.put-tlv.ensures.size, length-tlv 1 c.before.before.before.before.before.before.before.before.before.before.args.id.now, c.before.before.before.before.before.before.before.before.before.before.requires)
+pub returns : goal.returns
+returns c = let a = c.args in let w : List ℕ = tlv_of 0x0001 a.id.now in let n = c.put_tlv-n.result in
+    record {
+      size = omega (arith, c.put_tlv-n.ensures.size, length-tlv 1 a.id.now, length-target a.id.now);
+      text = lent-before (oct16 0x1000 ++ oct16 n) w a.buf.now 4 (simp (length-append, length-oct16)) (omega arith) c.put_tlv-n.ensures.text c.put_pair.ensures
+          ∙ ap (λ (r : List ℕ). over r a.buf.now) (target-parts a.id.now n c.put_tlv-n.ensures.size);
+    }
