@@ -95,7 +95,7 @@ fn tell(name: &[u8], done: Returned, reply: &[u8]) {
     let n = done.length;
     if 0 < n {
         io::write_all(1, b" ");
-        hex::print_octets(reply, n);
+        hexadecimal::print_octets(reply, n);
     }
     io::write_all(1, b"\n");
 }

@@ -1,7 +1,7 @@
 // A line of the script: its call, or where it is wrong.
 use crate::text;
 use crate::text::Line;
-use hex::Reading;
+use hexadecimal::Reading;
 
 // What is next: nothing to play; the end; a call, with its verb, where that stands, and how many octets it has; or where
 // the line is wrong, and why.
@@ -101,7 +101,7 @@ fn known(verb: u8) -> bool {
 }
 
 fn with_octets(s: &[u8], verb: u8, v: usize, at: usize, o: &mut [u8]) -> Next {
-    match hex::read(text::from(s, at), o) {
+    match hexadecimal::read(text::from(s, at), o) {
         Reading::NoDigit(i) => wrong(at, i, DIGIT),
         Reading::OddDigit(i) => wrong(at, i, ODD),
         Reading::NoRoom(i) => wrong(at, i, ROOM),

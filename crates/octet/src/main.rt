@@ -53,6 +53,6 @@ fn main() {
     io::write_all(1, b"\nlength=");
     io::print_decimal(1, length as u64);
     io::write_all(1, b"\nreply=");
-    hex::print_octets(&reply, length);
+    hexadecimal::print_octets(&reply, length);
     io::write_all(1, b"\n");
 }

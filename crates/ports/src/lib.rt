@@ -81,6 +81,7 @@ pub fn up(x: &mut Port)
     x.up = true;
 }
 
+#[tactic(auto, unfolding(crate::specs::Ports::taken_down))]
 pub fn down(x: &mut Port)
     ensures { x.new ≡ taken_down x.old }
 {
@@ -122,6 +123,7 @@ pub fn ask(x: &mut Port, required: u32, preferred: u32, transaction: u32)
 }
 
 // A port's record is changed where it is stored.
+#[tactic(auto, unfolding(crate::specs::Ports::changed_by))]
 pub fn update(x: &mut Port, c: Change)
     ensures { x.new ≡ changed_by c x.old }
 {

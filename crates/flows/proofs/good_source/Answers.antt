@@ -1,4 +1,4 @@
-use mathlib.Core.Path.{sym, ◌∙◌, ap}
+use mathlib.Core.Path.{sym, ap, ◌∙◌}
 use mathlib.Core.Bool.{not, and-true}
 use borrow.Author.Tests.{eq-eqb, ne_eqb, le-leb, lt-leb, not-true, not-false}
 use Rattle.octets.specs.Tests.{every}
@@ -24,4 +24,4 @@ returns-then-not-zero_from c = simp (ne_eqb _ _ c.if-sourced-eq0.false, le-leb _
 
 pub returns-else-not-zero_from : goal.returns-else-not-zero_from
 unfolding good_source every
-returns-else-not-zero_from c = simp (ne_eqb _ _ c.if-sourced-eq0.false, le-leb _ _ c.if-sourced-gt1.false, sym c.in_width.ensures ∙ c.if-not-in_width.false, sym c.zero_from-2.ensures ∙ c.if-not-zero_from.false) c.if-not-zero_from.false
+returns-else-not-zero_from c = simp (ne_eqb _ _ c.if-sourced-eq0.false, le-leb _ _ c.if-sourced-gt1.false, sym c.in_width.ensures ∙ c.if-not-in_width.false, sym c.zero_from-2.ensures ∙ c.if-not-zero_from.false) (ap not c.if-not-zero_from.false)

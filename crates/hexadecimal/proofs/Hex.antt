@@ -14,8 +14,8 @@ use lib.Dec.{ltb}
 use lib.ListN.{length, drop, get_or, drop_of_length-le}
 use lib.Seq.{drop-cons}
 use borrow.Author.Tests.{lt-ltb, le-ltb, ltb-true, eq-eqb, ne_eqb}
-use Rattle.hex.specs.Hex.{value_of, digits_in, octets_in, reading_of}
-use Rattle.hex.specs.declared.Reading.TheVariants.{Octets, NoDigit, OddDigit, NoRoom}
+use Rattle.hexadecimal.specs.Hex.{value_of, digits_in, octets_in, reading_of}
+use Rattle.hexadecimal.specs.declared.Reading.TheVariants.{Octets, NoDigit, OddDigit, NoRoom}
 
 module _ (s : List ℕ) (i : ℕ) where
   pub digits_turn : i < length s → value_of (get_or s i 0) < 16 → digits_in (drop i s) ≡ suc (digits_in (drop (i + 1) s))

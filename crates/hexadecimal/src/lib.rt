@@ -1,7 +1,7 @@
 // Octets as hexadecimal text, read and written, for the programs.
 ghost use Rattle.std.specs.Prelude.{◌≡◌, ◌≤◌, ◌<◌, ◌+◌, ◌*◌, length};
 ghost use Rattle.octets.specs.Writing.{over};
-ghost use Rattle.hex.specs.Hex.{value_of, digits_in, octets_in, reading_of, left_by};
+ghost use Rattle.hexadecimal.specs.Hex.{value_of, digits_in, octets_in, reading_of, left_by};
 
 // What reading a text comes to: how many octets it stands for, or why not, with the place in the text.
 #[derive(Clone, Copy)]

@@ -1,7 +1,7 @@
 use borrow.Author.Rules.{rules}
 use Prim.Native.Nat.{◌≤◌, ◌<◌, ◌-◌}
-use Rattle.hex.proofs.print_octets.Statement.{statement}
-use Rattle.hex.proofs.print_octets.Tie as tie
+use Rattle.hexadecimal.proofs.print_octets.Statement.{statement}
+use Rattle.hexadecimal.proofs.print_octets.Tie as tie
 
 abbrev invariant_loop : tie.invariant_loop
 invariant_loop s n i₀ i = i ≤ n

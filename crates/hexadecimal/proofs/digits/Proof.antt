@@ -3,10 +3,10 @@ use Prim.Native.Nat.{◌+◌, ◌-◌, ◌≤◌}
 use mathlib.Core.Path.{◌≡◌, refl}
 use native.Mathlib.Omega.{arith}
 use lib.ListN.{length, drop}
-use Rattle.hex.specs.Hex.{value_of, digits_in}
-use Rattle.hex.proofs.Hex.{digits_turn, digits_stop, digits_end}
-use Rattle.hex.proofs.digits.Statement.{statement}
-use Rattle.hex.proofs.digits.Tie as tie
+use Rattle.hexadecimal.specs.Hex.{value_of, digits_in}
+use Rattle.hexadecimal.proofs.Hex.{digits_turn, digits_stop, digits_end}
+use Rattle.hexadecimal.proofs.digits.Statement.{statement}
+use Rattle.hexadecimal.proofs.digits.Tie as tie
 
 abbrev invariant_loop : tie.invariant_loop
 invariant_loop s i₀ i = (i ≤ length s) × (digits_in s ≡ i + digits_in (drop i s))

@@ -1,8 +1,8 @@
 -- Octets as hexadecimal text: what a text stands for, and where it is wrong. Assumes nothing: these are definitions.
 use Rattle.std.specs.Prelude.{ℕ, suc, ◌+◌, ◌*◌, ◌-◌, ◌/◌, ◌%◌, cond, List, [], ◌∷◌, length, leb, ltb, eqb}
 use Rattle.octets.specs.Writing.{over}
-use Rattle.hex.specs.declared.Reading.{Reading}
-use Rattle.hex.specs.declared.Reading.TheVariants.{Octets, NoDigit, OddDigit, NoRoom}
+use Rattle.hexadecimal.specs.declared.Reading.{Reading}
+use Rattle.hexadecimal.specs.declared.Reading.TheVariants.{Octets, NoDigit, OddDigit, NoRoom}
 
 -- the value of a digit, 0 to 9, A to F or a to f; 16 for what is none
 unfoldable pub value_of : ℕ → ℕ

@@ -5,10 +5,10 @@ use native.Mathlib.Omega.{arith}
 use lib.ListN.{length, take, length-set}
 use Rattle.octets.specs.Writing.{over}
 use Rattle.octets.proofs.Writing.{over-turn, over_done, over_none}
-use Rattle.hex.specs.Hex.{octets_in}
-use Rattle.hex.proofs.Hex.{all_digits, length-octets, octet_at}
-use Rattle.hex.proofs.put_pairs.Statement.{statement}
-use Rattle.hex.proofs.put_pairs.Tie as tie
+use Rattle.hexadecimal.specs.Hex.{octets_in}
+use Rattle.hexadecimal.proofs.Hex.{all_digits, length-octets, octet_at}
+use Rattle.hexadecimal.proofs.put_pairs.Statement.{statement}
+use Rattle.hexadecimal.proofs.put_pairs.Tie as tie
 
 abbrev invariant_loop : tie.invariant_loop
 invariant_loop s n buf₀ i₀ buf i = (i ≤ n) × (length buf ≡ length buf₀) × (buf ≡ over (take i (octets_in s)) buf₀)

@@ -1,8 +1,8 @@
 use borrow.Author.Rules.{rules}
 use native.Mathlib.Omega.{arith}
-use Rattle.hex.proofs.Values.{below_0, from_0, below_capital_a, from_capital_a, below_small_a, from_small_a, beyond}
-use Rattle.hex.proofs.value.Statement.{statement}
-use Rattle.hex.proofs.value.Tie as tie
+use Rattle.hexadecimal.proofs.Values.{below_0, from_0, below_capital_a, from_capital_a, below_small_a, from_small_a, beyond}
+use Rattle.hexadecimal.proofs.value.Statement.{statement}
+use Rattle.hexadecimal.proofs.value.Tie as tie
 
 returns : tie.Need-returns
 returns c = (below_0 _ (omega arith), omega arith)

@@ -1,10 +1,10 @@
 use borrow.Author.Rules.{rules}
 use mathlib.Core.Path.{◌≡◌, refl, sym, ◌∙◌}
 use native.Mathlib.Omega.{arith}
-use Rattle.hex.specs.Hex.{left_by}
-use Rattle.hex.proofs.Hex.{digits_le, no_digit, odd_digit, no_room, octets}
-use Rattle.hex.proofs.read.Statement.{statement}
-use Rattle.hex.proofs.read.Tie as tie
+use Rattle.hexadecimal.specs.Hex.{left_by}
+use Rattle.hexadecimal.proofs.Hex.{digits_le, no_digit, odd_digit, no_room, octets}
+use Rattle.hexadecimal.proofs.read.Statement.{statement}
+use Rattle.hexadecimal.proofs.read.Tie as tie
 
 returns : tie.Need-returns
 unfolding left_by
