@@ -1,3 +1,5 @@
+#![tactic(auto)]
+
 // The circle of transaction numbers, for a host that keeps a limit across its restarts: README, "A restart".
 ghost use Rattle.std.specs.Prelude.{◌≡◌};
 ghost use Rattle.numbers.specs.Numbers.{is_number, after_of, Counted};
