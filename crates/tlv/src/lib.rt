@@ -1,3 +1,5 @@
+#![tactic(auto)]
+
 // What stands first in a list of TLVs, and the check of a list's lengths and depth.
 ghost use Rattle.std.specs.Prelude.{◌≡◌, ◌+◌, ◌≤◌};
 ghost use Rattle.tlv.specs.First.{first_tlv};
@@ -100,6 +102,7 @@ pub fn check_inside(c: &[u8], kind: u16, depth: u8, bare: bool) -> bool
     }
 }
 
+#[tactic(auto, unfolding(crate::specs::Depth::inside_of))]
 fn inside_of(c: &[u8], kind: u16, bare: bool) -> Inside
     ensures { result ≡ inside_of bare kind c.now }
 {
