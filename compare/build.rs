@@ -1,5 +1,5 @@
 //! Compiles src/header.c, the header's functions for Rust, and links it with the proved card:
-//! ../target/staticlib/libexports.a, built by `rt staticlib exports`. The sizes of card and tables come from the header.
+//! ../target/staticlib/libexports.a, built by tools/library exports. The sizes of card and tables come from the header.
 use std::path::{Path, PathBuf};
 use std::process::Command;
 

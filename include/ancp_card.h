@@ -12,7 +12,7 @@
    Across a restart no transaction number may come out twice as long as a server may still answer: see "a restart"
    below.
 
-   Link with libancp_card.a (`make` makes it by `rt staticlib exports`), whose functions of the card are proved; the
+   Link with libancp_card.a (`make` makes it by `tools/library exports`), whose functions of the card are proved; the
    inline functions here look at pointers and hand the arguments on. Names as text are in ancp_text.h. */
 #ifndef ANCP_CARD_H
 #define ANCP_CARD_H

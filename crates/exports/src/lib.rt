@@ -23,8 +23,7 @@ use readers::Request;
 // ---- start
 
 // 0 where start takes the tables and the first number, and else 14.
-#[unsafe(no_mangle)]
-pub extern "C" fn ancp_card_start_number(
+pub fn ancp_card_start_number(
     ids: &[u8; 4096],
     ports: usize,
     channels: &[u32; 2816],
@@ -48,8 +47,7 @@ pub extern "C" fn ancp_card_start_number(
 
 // A fresh core, part by part where the host keeps it: each of the 64 records, the pool's maps, and the head. Only fields
 // are written.
-#[unsafe(no_mangle)]
-pub extern "C" fn ancp_port_fresh_in(x: &mut Port)
+pub fn ancp_port_fresh_in(x: &mut Port)
     ensures { x.new ≡ fresh_port }
 {
     x.up = false;
@@ -60,8 +58,7 @@ pub extern "C" fn ancp_port_fresh_in(x: &mut Port)
     x.transaction = 0;
 }
 
-#[unsafe(no_mangle)]
-pub extern "C" fn ancp_pool_fresh_in(
+pub fn ancp_pool_fresh_in(
     owner: &mut [u8; 512],
     channel: &mut [u8; 512],
     charged: &mut [bool; 512],
@@ -75,8 +72,7 @@ pub extern "C" fn ancp_pool_fresh_in(
     *accounting = [0u8; 512];
 }
 
-#[unsafe(no_mangle)]
-pub extern "C" fn ancp_head_fresh_in(
+pub fn ancp_head_fresh_in(
     head: &mut CardHead,
     ports: usize,
     channel_count: usize,
@@ -96,8 +92,7 @@ pub extern "C" fn ancp_head_fresh_in(
 }
 
 // Why a start is refused: the first test that fails. Its table is 0 where the start is taken.
-#[unsafe(no_mangle)]
-pub extern "C" fn ancp_start_fault(
+pub fn ancp_start_fault(
     ids: &[u8; 4096],
     ports: usize,
     channels: &[u32; 2816],
@@ -132,8 +127,7 @@ pub struct Answer {
 
 // Any call, on the core where the host keeps it. Of the core the pool's maps are lent, and the record of the port that
 // the call is about is updated where it is stored; that record and the head are copied.
-#[unsafe(no_mangle)]
-pub extern "C" fn ancp_card_call(
+pub fn ancp_card_call(
     core: &mut Core,
     call: &HostCall,
     ids: &[u8; 4096],
@@ -175,29 +169,25 @@ pub extern "C" fn ancp_card_call(
 
 // ---- what a host may read, of the parts that a reader is lent
 
-#[unsafe(no_mangle)]
-pub extern "C" fn ancp_card_up_in(x: Port, port_count: usize, p: usize) -> bool
+pub fn ancp_card_up_in(x: Port, port_count: usize, p: usize) -> bool
     ensures { (card : Card) → HasRecord card port_count p x → result ≡ up_of card p }
 {
     readers::is_up(x, port_count, p)
 }
 
-#[unsafe(no_mangle)]
-pub extern "C" fn ancp_card_delegation_in(x: Port, port_count: usize, p: usize) -> u32
+pub fn ancp_card_delegation_in(x: Port, port_count: usize, p: usize) -> u32
     ensures { (card : Card) → HasRecord card port_count p x → result ≡ delegation_of card p }
 {
     readers::delegation(x, port_count, p)
 }
 
-#[unsafe(no_mangle)]
-pub extern "C" fn ancp_card_request_in(x: Port, port_count: usize, p: usize) -> Request
+pub fn ancp_card_request_in(x: Port, port_count: usize, p: usize) -> Request
     ensures { (card : Card) → HasRecord card port_count p x → result ≡ open_request_of card p }
 {
     readers::open_request(x, port_count, p)
 }
 
-#[unsafe(no_mangle)]
-pub extern "C" fn ancp_card_committed_in<'a>(
+pub fn ancp_card_committed_in<'a>(
     owner: &'a [u8; 512],
     channel: &'a [u8; 512],
     charged: &'a [bool; 512],
@@ -210,8 +200,7 @@ pub extern "C" fn ancp_card_committed_in<'a>(
     readers::committed(owner, channel, charged, channels, port_count, p)
 }
 
-#[unsafe(no_mangle)]
-pub extern "C" fn ancp_card_flows_in<'a>(
+pub fn ancp_card_flows_in<'a>(
     owner: &'a [u8; 512],
     channel: &'a [u8; 512],
     channels: &[u32; 2816],
@@ -223,8 +212,7 @@ pub extern "C" fn ancp_card_flows_in<'a>(
     readers::flows_of(owner, channel, channels, port_count, p)
 }
 
-#[unsafe(no_mangle)]
-pub extern "C" fn ancp_card_active_in<'a>(
+pub fn ancp_card_active_in<'a>(
     owner: &'a [u8; 512],
     channel: &'a [u8; 512],
     channels: &[u32; 2816],
@@ -238,8 +226,7 @@ pub extern "C" fn ancp_card_active_in<'a>(
     readers::is_active(owner, channel, channels, port_count, channel_count, p, f)
 }
 
-#[unsafe(no_mangle)]
-pub extern "C" fn ancp_card_flow_in<'a>(
+pub fn ancp_card_flow_in<'a>(
     owner: &'a [u8; 512],
     channel: &'a [u8; 512],
     charged: &'a [bool; 512],
@@ -266,8 +253,7 @@ pub extern "C" fn ancp_card_flow_in<'a>(
     )
 }
 
-#[unsafe(no_mangle)]
-pub extern "C" fn ancp_card_row_in<'a>(
+pub fn ancp_card_row_in<'a>(
     owner: &'a [u8; 512],
     channel: &'a [u8; 512],
     charged: &'a [bool; 512],
@@ -281,16 +267,14 @@ pub extern "C" fn ancp_card_row_in<'a>(
     readers::row_state(owner, channel, charged, accounting, port_count, p, k)
 }
 
-#[unsafe(no_mangle)]
-pub extern "C" fn ancp_card_extras_in(owner: &[u8; 512]) -> usize
+pub fn ancp_card_extras_in(owner: &[u8; 512]) -> usize
     ensures { result ≡ extras_in owner.now }
 {
     pool::extras_of(owner)
 }
 
 // The number that the next message takes: a host that stores it can start again after it.
-#[unsafe(no_mangle)]
-pub extern "C" fn ancp_card_next_in(counter: Counter) -> u32
+pub fn ancp_card_next_in(counter: Counter) -> u32
     ensures { result ≡ counter.number }
 {
     counter.number
@@ -298,15 +282,13 @@ pub extern "C" fn ancp_card_next_in(counter: Counter) -> u32
 
 // ---- the circle of transaction numbers, for a restart
 
-#[unsafe(no_mangle)]
-pub extern "C" fn ancp_number_after(number: u32, by: u32) -> u32
+pub fn ancp_number_after(number: u32, by: u32) -> u32
     ensures { result ≡ after_of number by }
 {
     numbers::number_after(number, by)
 }
 
-#[unsafe(no_mangle)]
-pub extern "C" fn ancp_numbers_left(number: u32, limit: u32) -> u32
+pub fn ancp_numbers_left(number: u32, limit: u32) -> u32
     ensures { Counted number limit result }
 {
     numbers::numbers_left(number, limit)
@@ -316,8 +298,7 @@ pub extern "C" fn ancp_numbers_left(number: u32, limit: u32) -> u32
 
 pub const VERSION: u32 = 102;
 
-#[unsafe(no_mangle)]
-pub extern "C" fn ancp_card_version() -> u32
+pub fn ancp_card_version() -> u32
     ensures { result ≡ 102 }
 {
     VERSION
