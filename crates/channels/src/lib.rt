@@ -1,3 +1,5 @@
+#![tactic(auto)]
+
 // The channel table: 256 rows of 11 words, lent by the host. A row is family, sourced (0 or 1), rate, group (4), source (4).
 ghost use Rattle.std.specs.Prelude.{◌≡◌, ◌+◌, ◌<◌, ◌≤◌, eqb};
 ghost use Rattle.rows.specs.Rows.{none_of, NextWith};
