@@ -1,3 +1,5 @@
+#![tactic(auto)]
+
 // The circuit ids of the ports: 64 rows of 64 octets, lent by the host. A row is the id's length, then the id.
 ghost use Rattle.std.specs.Prelude.{◌≡◌, ℕ, ◌+◌, ◌≤◌, ◌<◌, eqb, ltb, length};
 ghost use Rattle.flows.specs.Words.{same};
