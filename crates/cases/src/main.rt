@@ -1,8 +1,11 @@
+#![tactic(auto)]
+
 // The worked cases (CARD.md) that the host's calls reach, played and compared with the file stdout. Each line gives
 // what a call answered.
 use calls::HostCall;
 use card::{Core, Returned};
 use flows::Flow;
+use std::io;
 
 // 64 ports, named by one octet each; 20 IPv4 groups of rate 1000, the last of 1001; all white by 224.0.0.0/4 but two, which are grey and black.
 #[derive(Clone, Copy)]
@@ -72,11 +75,9 @@ fn flow(i: usize) -> Flow {
     }
 }
 
-fn say(what: &[u8], n: u64) {
-    io::write_all(1, what);
-    io::write_all(1, b" ");
-    io::print_decimal(1, n);
-    io::write_all(1, b"\n");
+fn say<P: Print>(rt: &P, what: &[u8], n: u64) -> io::Result<()> {
+    rt.write_all(what)?;
+    println!(rt; " {n}")
 }
 
 // Any call of the host's, with a whole reply buffer.
@@ -90,23 +91,50 @@ fn done(core: Core, t: Tables, call: HostCall) -> Returned {
 }
 
 // The same; its number is said.
-fn said(what: &[u8], core: Core, t: Tables, call: HostCall) -> Core {
+fn said<P: Print>(rt: &P, what: &[u8], core: Core, t: Tables, call: HostCall) -> io::Result<Core> {
     let d = done(core, t, call);
     let n = d.number;
-    say(what, n as u64);
-    d.core
+    say(rt, what, n as u64)?;
+    Ok(d.core)
 }
 
-fn join(what: &[u8], core: Core, t: Tables, p: usize, i: usize) -> Core {
-    said(what, core, t, calls::on_flow(calls::JOIN, p, flow(i)))
+fn join<P: Print>(
+    rt: &P,
+    what: &[u8],
+    core: Core,
+    t: Tables,
+    p: usize,
+    i: usize,
+) -> io::Result<Core> {
+    said(rt, what, core, t, calls::on_flow(calls::JOIN, p, flow(i)))
 }
 
-fn leave(what: &[u8], core: Core, t: Tables, p: usize, f: Flow) -> Core {
-    said(what, core, t, calls::on_flow(calls::LEAVE, p, f))
+fn leave<P: Print>(
+    rt: &P,
+    what: &[u8],
+    core: Core,
+    t: Tables,
+    p: usize,
+    f: Flow,
+) -> io::Result<Core> {
+    said(rt, what, core, t, calls::on_flow(calls::LEAVE, p, f))
 }
 
-fn ask(what: &[u8], core: Core, t: Tables, p: usize, required: u32) -> Core {
-    said(what, core, t, calls::on_port(calls::ASK, p, required, 200))
+fn ask<P: Print>(
+    rt: &P,
+    what: &[u8],
+    core: Core,
+    t: Tables,
+    p: usize,
+    required: u32,
+) -> io::Result<Core> {
+    said(
+        rt,
+        what,
+        core,
+        t,
+        calls::on_port(calls::ASK, p, required, 200),
+    )
 }
 
 // Channels 0 to n - 1 join on port p, unseen.
@@ -159,18 +187,18 @@ fn started(t: Tables, first: u32, ports: usize) -> card::Fresh {
     card::start(&ids, ports, &channels, 20, &entries, 3, true, false, first)
 }
 
-fn say_extras(core: Core) {
+fn say_extras<P: Print>(rt: &P, core: Core) -> io::Result<()> {
     let pool = core.pool;
-    say(b"extras", pool::extras_of(&pool.owner) as u64);
+    say(rt, b"extras", pool::extras_of(&pool.owner) as u64)
 }
 
-fn say_next(core: Core) {
+fn say_next<P: Print>(rt: &P, core: Core) -> io::Result<()> {
     let head = core.head;
     let counter = head.counter;
-    say(b"next", counter.number as u64);
+    say(rt, b"next", counter.number as u64)
 }
 
-fn figures(core: Core, t: Tables, p: usize) {
+fn figures<P: Print>(rt: &P, core: Core, t: Tables, p: usize) -> io::Result<()> {
     let channels = t.channels;
     let pool = core.pool;
     let table = core.ports;
@@ -178,92 +206,106 @@ fn figures(core: Core, t: Tables, p: usize) {
     let x = table[at];
     let n = core.head.port_count;
     say(
+        rt,
         b"committed",
         readers::committed(&pool.owner, &pool.channel, &pool.charged, &channels, n, p),
-    );
-    say(b"delegation", readers::delegation(x, n, p) as u64);
-    say_extras(core);
+    )?;
+    say(rt, b"delegation", readers::delegation(x, n, p) as u64)?;
+    say_extras(rt, core)
 }
 
 // Delegation 4000, committed 3000: rate 1000 starts, 1001 gives 4; and the other numbers of join and leave.
-fn admission(t: Tables) {
+fn admission<P: Print>(rt: &P, t: Tables) -> io::Result<()> {
     let s = started(t, 1, 64);
     let mut c = s.core;
-    c = join(b"join on a down port", c, t, 0, 0);
+    c = join(rt, b"join on a down port", c, t, 0, 0)?;
     c = opened(c, t, 0, 4000);
     c = fill(c, t, 0, 3);
-    c = join(b"1001 at 3000 of 4000", c, t, 0, 19);
-    c = join(b"1000 at 3000 of 4000", c, t, 0, 3);
-    c = join(b"an active flow", c, t, 0, 3);
-    c = join(b"a channel not listed", c, t, 0, 20);
-    c = join(b"a black channel", c, t, 0, 17);
-    c = join(b"a grey channel", c, t, 0, 18);
-    c = join(b"no such port", c, t, 64, 0);
+    c = join(rt, b"1001 at 3000 of 4000", c, t, 0, 19)?;
+    c = join(rt, b"1000 at 3000 of 4000", c, t, 0, 3)?;
+    c = join(rt, b"an active flow", c, t, 0, 3)?;
+    c = join(rt, b"a channel not listed", c, t, 0, 20)?;
+    c = join(rt, b"a black channel", c, t, 0, 17)?;
+    c = join(rt, b"a grey channel", c, t, 0, 18)?;
+    c = join(rt, b"no such port", c, t, 64, 0)?;
     let less = calls::on_port(calls::SET_DELEGATION, 0, 3999, 0);
-    c = said(b"delegation under committed", c, t, less);
-    c = leave(b"leave", c, t, 0, flow(3));
-    c = leave(b"leave again", c, t, 0, flow(3));
+    c = said(rt, b"delegation under committed", c, t, less)?;
+    c = leave(rt, b"leave", c, t, 0, flow(3))?;
+    c = leave(rt, b"leave again", c, t, 0, flow(3))?;
     let bad = Flow {
         family: 3,
         sourced: 0,
         group: [0, 0, 0, 0],
         source: [0, 0, 0, 0],
     };
-    c = leave(b"leave of a bad address", c, t, 0, bad);
-    figures(c, t, 0);
+    c = leave(rt, b"leave of a bad address", c, t, 0, bad)?;
+    figures(rt, c, t, 0)?;
     c = said(
+        rt,
         b"port down",
         c,
         t,
         calls::on_port(calls::PORT_DOWN, 0, 0, 0),
-    );
-    c = said(b"port up", c, t, calls::on_port(calls::PORT_UP, 0, 0, 0));
-    figures(c, t, 0);
+    )?;
+    c = said(
+        rt,
+        b"port up",
+        c,
+        t,
+        calls::on_port(calls::PORT_UP, 0, 0, 0),
+    )?;
+    figures(rt, c, t, 0)
 }
 
 // 256 extras: a fourth flow starts, a fifth gives 5. 255 extras: a fifth starts. A 17th never does.
-fn room(t: Tables) {
+fn room<P: Print>(rt: &P, t: Tables) -> io::Result<()> {
     let s = started(t, 1, 64);
     let mut c = s.core;
     c = open_ports(c, t, 34);
     c = fill(c, t, 0, 16);
-    c = join(b"a 17th flow", c, t, 0, 16);
+    c = join(rt, b"a 17th flow", c, t, 0, 16)?;
     c = fill_ports(c, t, 32);
     c = fill(c, t, 33, 3);
-    say_extras(c);
-    c = join(b"a fourth flow", c, t, 33, 3);
-    c = join(b"a fifth flow", c, t, 33, 4);
-    c = leave(b"leave on another port", c, t, 1, flow(0));
-    c = join(b"a fifth flow at 255 extras", c, t, 33, 4);
-    say_extras(c);
+    say_extras(rt, c)?;
+    c = join(rt, b"a fourth flow", c, t, 33, 3)?;
+    c = join(rt, b"a fifth flow", c, t, 33, 4)?;
+    c = leave(rt, b"leave on another port", c, t, 1, flow(0))?;
+    c = join(rt, b"a fifth flow at 255 extras", c, t, 33, 4)?;
+    say_extras(rt, c)
 }
 
 // Transaction 16,777,215 is followed by 1; and the numbers of ask and start.
-fn transactions(t: Tables) {
+fn transactions<P: Print>(rt: &P, t: Tables) -> io::Result<()> {
     let s = started(t, 16777215, 64);
     let mut c = s.core;
     c = opened(c, t, 0, 100);
     c = opened(c, t, 1, 100);
-    say_next(c);
-    c = ask(b"ask for what is there", c, t, 0, 100);
-    c = ask(b"ask", c, t, 0, 101);
-    say_next(c);
-    c = ask(b"ask again", c, t, 0, 101);
-    c = ask(b"ask on another port", c, t, 1, 101);
-    say_next(c);
+    say_next(rt, c)?;
+    c = ask(rt, b"ask for what is there", c, t, 0, 100)?;
+    c = ask(rt, b"ask", c, t, 0, 101)?;
+    say_next(rt, c)?;
+    c = ask(rt, b"ask again", c, t, 0, 101)?;
+    c = ask(rt, b"ask on another port", c, t, 1, 101)?;
+    say_next(rt, c)?;
     let asked = calls::on_port(calls::ASK, 1, 101, 200);
-    c = cramped(b"ask with a small buffer", c, t, asked);
+    c = cramped(rt, b"ask with a small buffer", c, t, asked)?;
     let told = calls::on_port(calls::MESSAGE, 0, 0, 0);
-    c = cramped(b"a message with a small buffer", c, t, told);
+    c = cramped(rt, b"a message with a small buffer", c, t, told)?;
     let none = started(t, 0, 64);
-    say(b"start with transaction 0", none.number as u64);
+    say(rt, b"start with transaction 0", none.number as u64)?;
     let many = started(t, 1, 65);
-    say(b"start with 65 ports", many.number as u64);
-    say_next(c);
+    say(rt, b"start with 65 ports", many.number as u64)?;
+    say_next(rt, c)
 }
 
 // A call with a reply buffer that is one octet too small; its octets are a Delegated Bandwidth Query (148) for port 1.
-fn cramped(what: &[u8], core: Core, t: Tables, call: HostCall) -> Core {
+fn cramped<P: Print>(
+    rt: &P,
+    what: &[u8],
+    core: Core,
+    t: Tables,
+    call: HostCall,
+) -> io::Result<Core> {
     let ids = t.ids;
     let channels = t.channels;
     let entries = t.entries;
@@ -272,13 +314,13 @@ fn cramped(what: &[u8], core: Core, t: Tables, call: HostCall) -> Core {
     let mut small = [0u8; 4607];
     let d = calls::call(core, &ids, &channels, &entries, call, octets, &mut small);
     let n = d.number;
-    say(what, n as u64);
-    d.core
+    say(rt, what, n as u64)?;
+    Ok(d.core)
 }
 
-fn main() {
+fn main(rt: HostRuntime) -> io::Result<()> {
     let t = filled();
-    admission(t);
-    room(t);
-    transactions(t);
+    admission(&rt, t)?;
+    room(&rt, t)?;
+    transactions(&rt, t)
 }

@@ -1,3 +1,5 @@
+#![tactic(auto)]
+
 // Plays a script of calls from standard input, such as the example messages of the sources (the file stdin), and writes
 // what each call answers. What is wrong in it is said on standard error and ends the run. A program has no exit status and
 // no usage text here: ./run-drafts has both, the script's format among it.
@@ -10,50 +12,59 @@ use card::{Core, Returned};
 use flows::Flow;
 use script::Next;
 use start::Tables;
+use std::io;
 
-fn main() {
+fn main(rt: HostRuntime) -> io::Result<()> {
+    let mut input = rt.stdin();
     let t = start::filled();
     let mut c = start::ready(t, false);
     let mut number: u64 = 1;
     while number < u64::MAX {
         let mut s = [0u8; 8257];
         let mut o = [0u8; 4097];
-        match script::next_call(&mut s, &mut o) {
+        match script::next_call(&mut input, &mut s, &mut o) {
             Next::Stop => {
-                return;
+                return Ok(());
             }
             Next::Pass => {}
             Next::Wrong { at, why } => {
-                script::say_wrong(number, at, why);
-                return;
+                return script::say_wrong(&rt.stderr(), number, at, why);
             }
             Next::Call { verb, at, n } => {
-                c = played(c, t, verb, text::first(&s, at), text::first(&o, n));
+                c = played(&rt, c, t, verb, text::first(&s, at), text::first(&o, n))?;
             }
         }
         number += 1;
     }
+    Ok(())
 }
 
-fn played(core: Core, t: Tables, verb: u8, name: &[u8], o: &[u8]) -> Core {
+fn played<P: Print>(
+    rt: &P,
+    core: Core,
+    t: Tables,
+    verb: u8,
+    name: &[u8],
+    o: &[u8],
+) -> io::Result<Core> {
     if verb == b'n' {
-        return start::ready(t, octets::read8(o, 0) == 1);
+        return Ok(start::ready(t, octets::read8(o, 0) == 1));
     }
     if verb == b's' {
-        return cramped(core, t, name, o);
+        return cramped(rt, core, t, name, o);
     }
     let mut reply = [0u8; 4608];
     let done = call(core, t, verb, o, &mut reply);
-    tell(name, done, &reply);
-    done.core
+    tell(rt, name, done, &reply)?;
+    Ok(done.core)
 }
 
 // A message with a reply buffer that is one octet too small.
-fn cramped(core: Core, t: Tables, name: &[u8], o: &[u8]) -> Core {
+fn cramped<P: Print>(rt: &P, core: Core, t: Tables, name: &[u8], o: &[u8]) -> io::Result<Core> {
     let mut reply = [0u8; 4607];
     let done = call(core, t, b'm', o, &mut reply);
-    tell(name, done, &reply);
-    done.core
+    tell(rt, name, done, &reply)?;
+    Ok(done.core)
 }
 
 fn call(core: Core, t: Tables, verb: u8, o: &[u8], reply: &mut [u8]) -> Returned {
@@ -89,13 +100,13 @@ fn flow(group: u32, source: u32, sourced: bool) -> Flow {
 }
 
 // The name and the space after it, the number, and the reply if there is one.
-fn tell(name: &[u8], done: Returned, reply: &[u8]) {
-    io::write_all(1, name);
-    io::print_decimal(1, done.number as u64);
+fn tell<P: Print>(rt: &P, name: &[u8], done: Returned, reply: &[u8]) -> io::Result<()> {
+    rt.write_all(name)?;
+    rt.print(done.number)?;
     let n = done.length;
     if 0 < n {
-        io::write_all(1, b" ");
-        hexadecimal::print_octets(reply, n);
+        rt.write_all(b" ")?;
+        hexadecimal::print_octets(&mut io::writer(rt), reply, n)?;
     }
-    io::write_all(1, b"\n");
+    rt.write_all(b"\n")
 }

@@ -2,6 +2,8 @@
 use crate::text;
 use crate::text::Line;
 use hexadecimal::Reading;
+use std::io;
+use std::io::Read;
 
 // What is next: nothing to play; the end; a call, with its verb, where that stands, and how many octets it has; or where
 // the line is wrong, and why.
@@ -36,8 +38,8 @@ const MANY: u8 = 9;
 const SWITCH: u8 = 10;
 
 // Reads a line into s and its octets into o.
-pub fn next_call(s: &mut [u8], o: &mut [u8]) -> Next {
-    match text::read_line(s) {
+pub fn next_call<R: Read>(input: &mut R, s: &mut [u8], o: &mut [u8]) -> Next {
+    match text::read_line(input, s) {
         Line::Ended(n) => parsed(text::first(s, n), o),
         Line::Last(n) => last(text::first(s, n), o),
         Line::Long => Next::Wrong {
@@ -145,26 +147,24 @@ fn wrong(from: usize, more: usize, why: u8) -> Next {
 }
 
 // Says the line and the character, both from 1 on, and why, on standard error.
-pub fn say_wrong(number: u64, at: usize, why: u8) {
-    io::write_all(2, b"drafts: line ");
-    io::print_decimal(2, number);
-    io::write_all(2, b", character ");
-    io::print_decimal(2, std::num::wrapping_add_u64(at as u64, 1));
-    say_why(why);
+pub fn say_wrong<P: Print>(to: &P, number: u64, at: usize, why: u8) -> io::Result<()> {
+    let place = std::num::wrapping_add_u64(at as u64, 1);
+    print!(to; "drafts: line {number}, character {place}")?;
+    say_why(to, why)
 }
 
-fn say_why(why: u8) {
+fn say_why<P: Print>(to: &P, why: u8) -> io::Result<()> {
     match why {
-        LONG => io::write_all(2, b": the line is too long\n"),
-        UNREAD => io::write_all(2, b": the script cannot be read\n"),
-        NAME => io::write_all(2, b": no name\n"),
-        VERB => io::write_all(2, b": no verb\n"),
-        SPACE => io::write_all(2, b": no space\n"),
-        DIGIT => io::write_all(2, b": no hexadecimal digit\n"),
-        ODD => io::write_all(2, b": half an octet\n"),
-        ROOM => io::write_all(2, b": more than 4,097 octets\n"),
-        FEW => io::write_all(2, b": too few octets\n"),
-        MANY => io::write_all(2, b": too many octets\n"),
-        _ => io::write_all(2, b": neither 00 nor 01\n"),
-    };
+        LONG => to.write_all(b": the line is too long\n"),
+        UNREAD => to.write_all(b": the script cannot be read\n"),
+        NAME => to.write_all(b": no name\n"),
+        VERB => to.write_all(b": no verb\n"),
+        SPACE => to.write_all(b": no space\n"),
+        DIGIT => to.write_all(b": no hexadecimal digit\n"),
+        ODD => to.write_all(b": half an octet\n"),
+        ROOM => to.write_all(b": more than 4,097 octets\n"),
+        FEW => to.write_all(b": too few octets\n"),
+        MANY => to.write_all(b": too many octets\n"),
+        _ => to.write_all(b": neither 00 nor 01\n"),
+    }
 }

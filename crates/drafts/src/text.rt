@@ -1,6 +1,8 @@
 // The lines of the script, and their parts.
 ghost use Rattle.std.specs.Prelude.{◌≤◌, length};
 
+use std::io::Read;
+
 // n characters and a line end, n characters and the script's end, more characters than there is room for, or a read that
 // failed.
 #[derive(Clone, Copy)]
@@ -12,16 +14,18 @@ pub enum Line {
 }
 
 // Reads one line, a character at a time: so a line is answered before the next one is there.
-pub fn read_line(buf: &mut [u8]) -> Line {
+pub fn read_line<R: Read>(input: &mut R, buf: &mut [u8]) -> Line {
     let mut n: usize = 0;
     while n < buf.len() {
         let mut one = [0u8; 1];
-        let got = libc::read(0, &mut one);
-        if got < 0 {
-            return Line::Failed;
-        }
-        if got == 0 {
-            return Line::Last(n);
+        match input.read(&mut one) {
+            Err(_) => {
+                return Line::Failed;
+            }
+            Ok(0) => {
+                return Line::Last(n);
+            }
+            Ok(_) => {}
         }
         if one[0] == b'\n' {
             return Line::Ended(n);

@@ -1,7 +1,12 @@
+#![tactic(auto)]
+
 // Octets as hexadecimal text, read and written, for the programs.
 ghost use Rattle.std.specs.Prelude.{◌≡◌, ◌≤◌, ◌<◌, ◌+◌, ◌*◌, length};
 ghost use Rattle.octets.specs.Writing.{over};
 ghost use Rattle.hexadecimal.specs.Hex.{value_of, digits_in, octets_in, reading_of, left_by};
+
+use std::io;
+use std::io::Write;
 
 // What reading a text comes to: how many octets it stands for, or why not, with the place in the text.
 #[derive(Clone, Copy)]
@@ -91,16 +96,17 @@ fn value(x: u8) -> u8
     16
 }
 // The first n octets, or as many as there are, in capitals.
-pub fn print_octets(s: &[u8], n: usize) {
+pub fn print_octets<W: Write>(out: &mut W, s: &[u8], n: usize) -> io::Result<()> {
     let mut i = 0;
     while i < n {
         if s.len() <= i {
-            return;
+            return Ok(());
         }
         let two = [digit(s[i] / 16), digit(s[i])];
-        io::write_all(1, &two);
+        out.write_all(&two)?;
         i += 1;
     }
+    Ok(())
 }
 
 fn digit(n: u8) -> u8 {

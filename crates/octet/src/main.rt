@@ -1,5 +1,11 @@
+#![tactic(auto)]
+
 // The octet program: one port `p1`, up, with delegation 4000, is handed the message on standard input; prints the
 // answer.
+ghost use Rattle.std.specs.Prelude.{◌≤◌, length, IfOk};
+
+use std::io;
+use std::io::Read;
 
 // Which channels and lists the card has is the program's choice: none.
 #[derive(Clone, Copy)]
@@ -21,7 +27,7 @@ fn filled() -> Tables {
     }
 }
 
-fn main() {
+fn main(rt: HostRuntime) -> io::Result<()> {
     // One octet more than a message may have, so that a longer one is seen to be too long.
     let mut octets = [0u8; 4097];
     let mut reply = [0u8; 4608];
@@ -37,7 +43,7 @@ fn main() {
     let none = [0u8; 1];
     let a = calls::call(s.core, &ids, &channels, &entries, up, &none, &mut reply);
     let b = calls::call(a.core, &ids, &channels, &entries, set, &none, &mut reply);
-    let n = io::read_full(0, &mut octets);
+    let n = read_full(&mut rt.stdin(), &mut octets)?;
     let done = calls::call(
         b.core,
         &ids,
@@ -48,11 +54,23 @@ fn main() {
         &mut reply,
     );
     let length = done.length;
-    io::write_all(1, b"answer=");
-    io::print_decimal(1, done.number as u64);
-    io::write_all(1, b"\nlength=");
-    io::print_decimal(1, length as u64);
-    io::write_all(1, b"\nreply=");
-    hexadecimal::print_octets(&reply, length);
-    io::write_all(1, b"\n");
+    let number = done.number;
+    print!(rt; "answer={number}\nlength={length}\nreply=")?;
+    hexadecimal::print_octets(&mut rt.stdout(), &reply, length)?;
+    println!(rt;)
+}
+
+// Reads until the buffer is full or the input ends; how many octets it read.
+fn read_full<R: Read>(input: &mut R, buf: &mut [u8]) -> io::Result<usize>
+    ensures { IfOk result (λ n. n ≤ length buf.new) }
+{
+    let mut done: usize = 0;
+    while done < buf.len() {
+        let n = input.read(&mut buf[done..])?;
+        if n == 0 {
+            return Ok(done);
+        }
+        done += n;
+    }
+    Ok(done)
 }

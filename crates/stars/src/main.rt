@@ -1,3 +1,5 @@
+#![tactic(auto)]
+
 // The starred cases (CARD.md, "Worked cases") as a table: what is given, as the card has it before the call; what is
 // expected; what the card did.
 mod givens;
@@ -7,45 +9,46 @@ use calls::HostCall;
 use card::Core;
 use flows::Flow;
 use givens::Tables;
+use std::io;
 use table::{Given, Shown};
 
-fn main() {
+fn main(rt: HostRuntime) -> io::Result<()> {
     let t = givens::filled();
-    table::heading();
-    admission(t);
-    space(t);
-    requests(t);
-    transaction(t);
+    table::heading(&rt)?;
+    admission(&rt, t)?;
+    space(&rt, t)?;
+    requests(&rt, t)?;
+    transaction(&rt, t)
 }
 
 // Delegation 4000, committed 3000: rate 1000 starts, 1001 gives 4.
-fn admission(t: Tables) {
+fn admission<P: Print>(rt: &P, t: Tables) -> io::Result<()> {
     let c = givens::committed3000(t);
-    join(t, c, 17, 1000, 0, true);
-    join(t, c, 18, 1001, 4, false);
+    join(rt, t, c, 17, 1000, 0, true)?;
+    join(rt, t, c, 18, 1001, 4, false)
 }
 
 // 256 extras: a fourth flow starts, a fifth gives 5. 255 extras: a fifth starts, a 17th does not.
-fn space(t: Tables) {
-    join(t, givens::crowded(t, 3, 21, 8), 16, 100, 0, true);
-    join(t, givens::crowded(t, 4, 21, 8), 16, 100, 5, false);
-    join(t, givens::crowded(t, 4, 21, 7), 16, 100, 0, true);
-    join(t, givens::crowded(t, 16, 20, 7), 16, 100, 5, false);
+fn space<P: Print>(rt: &P, t: Tables) -> io::Result<()> {
+    join(rt, t, givens::crowded(t, 3, 21, 8), 16, 100, 0, true)?;
+    join(rt, t, givens::crowded(t, 4, 21, 8), 16, 100, 5, false)?;
+    join(rt, t, givens::crowded(t, 4, 21, 7), 16, 100, 0, true)?;
+    join(rt, t, givens::crowded(t, 16, 20, 7), 16, 100, 5, false)
 }
 
 // Delegation 6000, committed 3500, required/preferred: 4000/3000 gives 3500; 3400/3000 fails with 6000; 6000/6000 gives
 // 6000; 7000/8000 gives 0x67; 6001/6001 succeeds with 6000.
-fn requests(t: Tables) {
+fn requests<P: Print>(rt: &P, t: Tables) -> io::Result<()> {
     let c = givens::committed3500(t, 1);
-    request(t, c, 4000, 3000, 3, 0, 3500);
-    request(t, c, 3400, 3000, 4, 0, 6000);
-    request(t, c, 6000, 6000, 3, 0, 6000);
-    request(t, c, 7000, 8000, 4, 0x67, 6000);
-    request(t, c, 6001, 6001, 3, 0, 6000);
+    request(rt, t, c, 4000, 3000, 3, 0, 3500)?;
+    request(rt, t, c, 3400, 3000, 4, 0, 6000)?;
+    request(rt, t, c, 6000, 6000, 3, 0, 6000)?;
+    request(rt, t, c, 7000, 8000, 4, 0x67, 6000)?;
+    request(rt, t, c, 6001, 6001, 3, 0, 6000)
 }
 
 // Transaction 16,777,215 is followed by 1.
-fn transaction(t: Tables) {
+fn transaction<P: Print>(rt: &P, t: Tables) -> io::Result<()> {
     let c = givens::committed3500(t, 16777215);
     let expected = Shown {
         number: 0,
@@ -59,11 +62,19 @@ fn transaction(t: Tables) {
     };
     let call = calls::on_port(calls::ASK, 0, 7000, 8000);
     let did = shown(t, c, call, b"", givens::flow(0));
-    table::of_ask(given(t, c), c.head.counter.number, expected, did);
+    table::of_ask(rt, given(t, c), c.head.counter.number, expected, did)
 }
 
 // A join on port 0; one that is refused leaves the card's amounts and its next number alone too.
-fn join(t: Tables, c: Core, k: usize, rate: u32, number: u8, active: bool) {
+fn join<P: Print>(
+    rt: &P,
+    t: Tables,
+    c: Core,
+    k: usize,
+    rate: u32,
+    number: u8,
+    active: bool,
+) -> io::Result<()> {
     let expected = Shown {
         number,
         result: 0,
@@ -76,11 +87,20 @@ fn join(t: Tables, c: Core, k: usize, rate: u32, number: u8, active: bool) {
     };
     let f = givens::flow(k);
     let did = shown(t, c, calls::on_flow(calls::JOIN, 0, f), b"", f);
-    table::of_join(given(t, c), rate, expected, did);
+    table::of_join(rt, given(t, c), rate, expected, did)
 }
 
 // A Bandwidth Reallocation Request (146) of transaction 7, answered by a 147 with the delegation that the port then has.
-fn request(t: Tables, c: Core, required: u32, preferred: u32, res: u8, code: u16, amount: u32) {
+fn request<P: Print>(
+    rt: &P,
+    t: Tables,
+    c: Core,
+    required: u32,
+    preferred: u32,
+    res: u8,
+    code: u16,
+    amount: u32,
+) -> io::Result<()> {
     let expected = Shown {
         number: 0,
         result: res,
@@ -94,7 +114,7 @@ fn request(t: Tables, c: Core, required: u32, preferred: u32, res: u8, code: u16
     let octets = message(required, preferred);
     let call = calls::on_port(calls::MESSAGE, 0, 0, 0);
     let did = shown(t, c, call, &octets, givens::flow(0));
-    table::of_request(given(t, c), required, preferred, expected, did);
+    table::of_request(rt, given(t, c), required, preferred, expected, did)
 }
 
 // 146 with the circuit id of port 0, the octet 0.

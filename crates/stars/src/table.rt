@@ -1,4 +1,5 @@
 // The rows of the table.
+use std::io;
 
 // What the card has of port 0 before the call, and the extras of all ports.
 #[derive(Clone, Copy)]
@@ -23,73 +24,92 @@ pub struct Shown {
     pub next: u32,
 }
 
-pub fn heading() {
-    io::write_all(
-        1,
+pub fn heading<P: Print>(rt: &P) -> io::Result<()> {
+    rt.write_all(
         b"The starred cases, on port 0: what is given | what is expected | what the card did | do they agree\n",
-    );
+    )
 }
 
-pub fn of_join(given: Given, rate: u32, expected: Shown, did: Shown) {
-    say_given(given);
-    say(b", flows ", given.flows as u64, 2);
-    say(b", extras ", given.extras as u64, 3);
-    say(b": join of rate ", rate as u64, 4);
-    say_join(expected);
-    say_join(did);
-    say_verdict(same(expected, did));
+pub fn of_join<P: Print>(
+    rt: &P,
+    given: Given,
+    rate: u32,
+    expected: Shown,
+    did: Shown,
+) -> io::Result<()> {
+    say_given(rt, given)?;
+    say(rt, b", flows ", given.flows as u64, 2)?;
+    say(rt, b", extras ", given.extras as u64, 3)?;
+    say(rt, b": join of rate ", rate as u64, 4)?;
+    say_join(rt, expected)?;
+    say_join(rt, did)?;
+    say_verdict(rt, same(expected, did))
 }
 
-pub fn of_request(given: Given, required: u32, preferred: u32, expected: Shown, did: Shown) {
-    say_given(given);
-    say(b": 146 with ", required as u64, 4);
-    say(b"/", preferred as u64, 4);
-    say_answer(expected);
-    say_answer(did);
-    say_verdict(same(expected, did));
+pub fn of_request<P: Print>(
+    rt: &P,
+    given: Given,
+    required: u32,
+    preferred: u32,
+    expected: Shown,
+    did: Shown,
+) -> io::Result<()> {
+    say_given(rt, given)?;
+    say(rt, b": 146 with ", required as u64, 4)?;
+    say(rt, b"/", preferred as u64, 4)?;
+    say_answer(rt, expected)?;
+    say_answer(rt, did)?;
+    say_verdict(rt, same(expected, did))
 }
 
-pub fn of_ask(given: Given, next: u32, expected: Shown, did: Shown) {
-    say_given(given);
-    say(b", next number ", next as u64, 1);
-    io::write_all(1, b": ask for 7000/8000");
-    say_number(expected);
-    say_number(did);
-    say_verdict(same(expected, did));
+pub fn of_ask<P: Print>(
+    rt: &P,
+    given: Given,
+    next: u32,
+    expected: Shown,
+    did: Shown,
+) -> io::Result<()> {
+    say_given(rt, given)?;
+    say(rt, b", next number ", next as u64, 1)?;
+    rt.write_all(b": ask for 7000/8000")?;
+    say_number(rt, expected)?;
+    say_number(rt, did)?;
+    say_verdict(rt, same(expected, did))
 }
 
-fn say_given(given: Given) {
-    say(b"delegation ", given.delegation as u64, 4);
-    say(b", committed ", given.committed, 4);
+fn say_given<P: Print>(rt: &P, given: Given) -> io::Result<()> {
+    say(rt, b"delegation ", given.delegation as u64, 4)?;
+    say(rt, b", committed ", given.committed, 4)
 }
 
-fn say_join(x: Shown) {
-    say(b" | number ", x.number as u64, 1);
+fn say_join<P: Print>(rt: &P, x: Shown) -> io::Result<()> {
+    say(rt, b" | number ", x.number as u64, 1)?;
     if x.active {
-        io::write_all(1, b", starts        ");
+        rt.write_all(b", starts        ")
     } else {
-        io::write_all(1, b", does not start");
+        rt.write_all(b", does not start")
     }
 }
 
-fn say_answer(x: Shown) {
-    say(b" | Result ", x.result as u64, 1);
-    io::write_all(1, b", code 0x");
-    io::print_hex(1, x.code as u64, 2);
-    say(b", amount ", x.amount as u64, 4);
-    say(b", delegation ", x.delegation as u64, 4);
+fn say_answer<P: Print>(rt: &P, x: Shown) -> io::Result<()> {
+    say(rt, b" | Result ", x.result as u64, 1)?;
+    rt.write_all(b", code 0x")?;
+    let code = x.code;
+    print!(rt; "{code:02x}")?;
+    say(rt, b", amount ", x.amount as u64, 4)?;
+    say(rt, b", delegation ", x.delegation as u64, 4)
 }
 
-fn say_number(x: Shown) {
-    say(b" | transaction ", x.transaction as u64, 1);
-    say(b", next number ", x.next as u64, 1);
+fn say_number<P: Print>(rt: &P, x: Shown) -> io::Result<()> {
+    say(rt, b" | transaction ", x.transaction as u64, 1)?;
+    say(rt, b", next number ", x.next as u64, 1)
 }
 
-fn say_verdict(agree: bool) {
+fn say_verdict<P: Print>(rt: &P, agree: bool) -> io::Result<()> {
     if agree {
-        io::write_all(1, b" | yes\n");
+        rt.write_all(b" | yes\n")
     } else {
-        io::write_all(1, b" | NO\n");
+        rt.write_all(b" | NO\n")
     }
 }
 
@@ -120,14 +140,21 @@ fn same(a: Shown, b: Shown) -> bool {
 }
 
 // A number, with spaces before it up to so many characters.
-fn say(what: &[u8], n: u64, width: usize) {
-    let mut digits = [0u8; 20];
-    io::write_all(1, what);
-    let k = io::decimal(n, &mut digits);
+fn say<P: Print>(rt: &P, what: &[u8], n: u64, width: usize) -> io::Result<()> {
+    rt.write_all(what)?;
+    let k = digits(n);
     if k < width {
-        io::write_all(1, first(b"    ", width - k));
+        rt.write_all(first(b"    ", width - k))?;
     }
-    io::write_all(1, &digits[..k]);
+    rt.print(n)
+}
+
+// How many decimal digits a number has.
+fn digits(n: u64) -> usize {
+    match n.checked_ilog10() {
+        Some(k) => k as usize + 1,
+        None => 1,
+    }
 }
 
 fn first<'a>(s: &'a [u8], n: usize) -> &'a [u8] {
