@@ -1,15 +1,15 @@
 -- A place in a message. Assumes nothing.
 use mathlib.Core.Path.{◌≡◌, refl, sym, ap, ◌∙◌}
-use mathlib.Core.List.{List, [], ◌∷◌}
+use mathlib.Core.List.{List}
 use Prim.Native.Nat.{ℕ, ◌+◌, ◌≤◌}
 use native.Mathlib.Omega.{arith}
-use lib.ListN.{length, take, drop, length-drop}
+use lib.ListN.{length, drop, length-drop}
 use Rattle.octets.specs.Numbers.{padded}
 use Rattle.tlv.specs.declared.First.{First}
 use Rattle.tlv.specs.declared.First.TheVariants.{End, Broken, Tlv}
 use Rattle.tlv.specs.First.{first_tlv}
-use Rattle.tlv.proofs.Firsts.{FirstIs, ended, broke, stood, first_is, tlv-fits}
-use Rattle.items.specs.Items.{Item, item, items_of}
+use Rattle.tlv.proofs.Firsts.{tlv-fits}
+use Rattle.items.specs.Items.{items_of}
 use Rattle.items.specs.Place.{tlv_at, size_of, place_after, content_by, content_at}
 use Rattle.items.proofs.Items.{items_end, items-broken, items-tlv}
 use Rattle.items.proofs.Types.{head_content}

@@ -1,14 +1,14 @@
 -- The TLVs of one type among those of a list. Assumes nothing.
-use mathlib.Core.Path.{◌≡◌, refl, sym, ap, ◌∙◌}
+use mathlib.Core.Path.{◌≡◌, refl}
 use mathlib.Core.List.{List, [], ◌∷◌}
 use mathlib.Core.Bool.{Bool, true, false, cond}
-use Prim.Native.Nat.{ℕ, suc, ◌+◌, ◌≤◌}
+use Prim.Native.Nat.{ℕ, ◌+◌, ◌≤◌}
 use native.Mathlib.Omega.{arith}
 use native.Mathlib.Numerals.{add-one}
 use lib.ListN.{length, get_or}
 use lib.Dec.{eqb}
 use borrow.Author.Tests.{eq-eqb, ne_eqb}
-use Rattle.items.specs.Items.{Item, item, of_type, count_of, first_of, from_type}
+use Rattle.items.specs.Items.{Item, of_type, count_of, first_of, from_type}
 use Rattle.items.proofs.Items.{Fit}
 
 module _ {t : ℕ} (i : Item) (is : List Item) where

@@ -1,3 +1,5 @@
+#![tactic(auto)]
+
 // Walks over the TLVs of a list, each of which hands out parts of the message.
 ghost use Rattle.std.specs.Prelude.{◌≡◌};
 ghost use Rattle.items.specs.Items.{items_of, count_of, first_of, from_type};
