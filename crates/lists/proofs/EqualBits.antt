@@ -3,7 +3,7 @@
 --     first-zeros      of two words' k bits so many are equal as their xor has leading zeros
 --     prefix_laws      what specs/EqualBits.antt states
 -- Assumes nothing.
-use Prim.Native.Nat.{ℕ, zero, suc, ◌+◌, ◌-◌, ◌*◌, ◌/◌, ◌%◌, ◌^◌, ◌≤◌, ◌<◌, min}
+use Prim.Native.Nat.{ℕ, zero, suc, ◌+◌, ◌*◌, ◌/◌, ◌%◌, ◌^◌, ◌≤◌, ◌<◌, min}
 use mathlib.Core.Path.{◌≡◌, refl, sym, ap, ap₂, ◌∙◌}
 use mathlib.Core.Bool.{Bool, true, false, cond, ◌&&◌}
 use mathlib.Core.List.{List, [], ◌∷◌, ◌++◌, append-nil}
@@ -11,7 +11,7 @@ use lib.ListN.{length, take, length-append}
 use lib.Seq.{take_all}
 use lib.Dec.{eqb, leb, leb-zero, leb-suc-zero, leb-suc-suc}
 use lib.Pow.{pow_pos, mod-pow-add}
-use lib.Bits.{bit_and, bit_xor, xor_lt, xor_shr, xor_add_and, and_le_l, and_le_r}
+use lib.Bits.{bit_xor, xor_lt, xor_shr, xor_add_and, and_le_l, and_le_r}
 use lib.Count.{count_leading_zeros, leading_length, leading_unique}
 use native.Mathlib.Nat.{mod-lt, mod-eq_of_lt, pow-suc, zero-min, min-zero, suc-min-suc, min-eq_left, le_refl}
 use native.Mathlib.Omega.{arith}

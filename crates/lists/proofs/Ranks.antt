@@ -30,20 +30,23 @@ module _ (length : Entry → ℕ) where
     cons_above : longest length es < length e → with_longest length (e ∷ es) ≡ e ∷ []
     unfolding longest of_length with_longest
     cons_above h =
-        let m : max (length e) (longest length es) ≡ length e = omega arith in
-        rw (m, eq-eqb (length e) (length e) refl) (ap (λ (r : List Entry). e ∷ r) (none-longer (length e) es h))
+        let k : max (length e) (longest length es) ≡ length e = omega arith in
+        let m : longest length (e ∷ es) ≡ length e = k in
+        rw (m, eq-eqb (length e) (length e) refl) (ap (λ (n : ℕ). e ∷ of_length length n es) m ∙ ap (λ (r : List Entry). e ∷ r) (none-longer (length e) es h))
 
     cons_same : length e ≡ longest length es → with_longest length (e ∷ es) ≡ e ∷ with_longest length es
     unfolding longest of_length with_longest
     cons_same h =
-        let m : max (length e) (longest length es) ≡ longest length es = omega arith in
-        rw (m, eq-eqb (length e) (longest length es) h) refl
+        let k : max (length e) (longest length es) ≡ longest length es = omega arith in
+        let m : longest length (e ∷ es) ≡ longest length es = k in
+        rw (m, eq-eqb (length e) (longest length es) h) (ap (λ (n : ℕ). e ∷ of_length length n es) m)
 
     cons_below : length e < longest length es → with_longest length (e ∷ es) ≡ with_longest length es
     unfolding longest of_length with_longest
     cons_below h =
-        let m : max (length e) (longest length es) ≡ longest length es = omega arith in
-        rw (m, ne_eqb (length e) (longest length es) (λ k. omega arith)) refl
+        let k : max (length e) (longest length es) ≡ longest length es = omega arith in
+        let m : longest length (e ∷ es) ≡ longest length es = k in
+        rw (m, ne_eqb (length e) (longest length es) (λ j. omega arith)) (ap (λ (n : ℕ). of_length length n es) m)
 
   alone : (e : Entry) → with_longest length (e ∷ []) ≡ e ∷ []
   unfolding longest of_length with_longest

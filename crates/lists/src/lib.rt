@@ -1,3 +1,5 @@
+#![tactic(auto)]
+
 // The list entries, 128 rows of 12 words lent by the host, and what they decide for a flow.
 // A row is family, list, group prefix length, source prefix length, group (4), source (4).
 ghost use Rattle.std.specs.Prelude.{◌≡◌, [], ◌∷◌, ◌≤◌, ◌<◌};
