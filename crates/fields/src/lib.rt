@@ -1,3 +1,5 @@
+#![tactic(auto)]
+
 // The fields of the TLVs, read from a TLV's content.
 ghost use Rattle.std.specs.Prelude.{◌≡◌, take, drop};
 ghost use Rattle.octets.specs.Numbers.{be16, be32};
