@@ -12,10 +12,12 @@ use Rattle.writers.proofs.Tlvs.{length-tlv, length-target, target-parts}
 use borrow.Author.Rules.{rules}
 use Rattle.writers.proofs.put_target.Goals as goal
 
--- cast-put-pair : tie.Need-overflow-cast-put-pair
--- cast-put-pair c = omega (arith, c.before.before.before.put-tlv.ensures.size, length-tlv 1 c.before.before.before.before.before.before.before.args.id.now, c.before.before.before.before.before.before.before.requires)
--- add-result : tie.Need-overflow-add-result
--- add-result c = omega (arith, c.before.before.before.before.before.before.put-tlv.ensures.size, length-tlv 1 c.before.before.before.before.before.before.before.before.before.before.args.id.now, c.before.before.before.before.before.before.before.before.before.before.requires)
+pub overflow_cast-n : goal.overflow_cast-n
+overflow_cast-n c = omega (arith, c.put_tlv-n.ensures.size, length-tlv 1 c.args.id.now, c.requires)
+
+pub overflow_add-result : goal.overflow_add-result
+overflow_add-result c = omega (arith, c.put_tlv-n.ensures.size, length-tlv 1 c.args.id.now, c.requires)
+
 pub returns : goal.returns
 returns c = let a = c.args in let w : List ℕ = tlv_of 0x0001 a.id.now in let n = c.put_tlv-n.result in
     record {
