@@ -1,3 +1,5 @@
+#![tactic(auto)]
+
 // The 512 flow records: which port each belongs to, its channel, whether it is charged, and its accounting.
 // No figure is stored: counts, extras and committed amounts are read off the records.
 ghost use Rattle.std.specs.Prelude.{◌≡◌, ◌+◌, ◌<◌, ◌≤◌, length, eqb};

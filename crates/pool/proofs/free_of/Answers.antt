@@ -1,0 +1,6 @@
+use Rattle.pool.proofs.Pools.{free_is}
+use borrow.Author.Rules.{rules}
+use Rattle.pool.proofs.free_of.Goals as goal
+
+pub returns : goal.returns
+returns c = free_is c.args.owner.now c.next_of.ensures
