@@ -1,9 +1,4 @@
-use borrow.Author.Rules.{rules}
-use Prim.Native.Nat.{◌+◌, ◌-◌, ◌≤◌}
-use mathlib.Core.Path.{◌≡◌, refl}
 use native.Mathlib.Omega.{arith}
-use lib.ListN.{length, drop}
-use Rattle.hexadecimal.specs.Hex.{value_of, digits_in}
 use Rattle.hexadecimal.proofs.Hex.{digits_turn, digits_stop, digits_end}
 use Rattle.hexadecimal.proofs.digits.Goals as goal
 

@@ -1,10 +1,7 @@
-use borrow.Author.Rules.{rules}
 use Prim.Native.Nat.{◌+◌, ◌-◌, ◌≤◌}
-use mathlib.Core.Path.{◌≡◌, refl}
-use native.Mathlib.Omega.{arith}
+use mathlib.Core.Path.{◌≡◌}
 use lib.ListN.{length, drop}
-use Rattle.hexadecimal.specs.Hex.{value_of, digits_in}
-use Rattle.hexadecimal.proofs.Hex.{digits_turn, digits_stop, digits_end}
+use Rattle.hexadecimal.specs.Hex.{digits_in}
 use Rattle.hexadecimal.proofs.digits.Given as goal
 
 abbrev pub invariant-loop-i : goal.invariant-loop-i

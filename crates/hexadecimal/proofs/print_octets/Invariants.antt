@@ -1,9 +1,8 @@
-use borrow.Author.Rules.{rules}
-use Prim.Native.Nat.{◌≤◌, ◌<◌, ◌-◌}
+use Rattle.std.proofs.Common.{◌-◌, ◌≤◌}
 use Rattle.hexadecimal.proofs.print_octets.Given as goal
 
 abbrev pub invariant-loop-i : goal.invariant-loop-i
-invariant-loop-i l = i ≤ n
+invariant-loop-i g l = l.i ≤ l.n
 
 abbrev pub decreases-loop-i : goal.decreases-loop-i
-decreases-loop-i l = n - i
+decreases-loop-i g l = l.n - l.i

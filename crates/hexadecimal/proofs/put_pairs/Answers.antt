@@ -1,9 +1,6 @@
-use borrow.Author.Rules.{rules}
-use Prim.Native.Nat.{◌+◌, ◌-◌, ◌≤◌}
-use mathlib.Core.Path.{◌≡◌, refl, ◌∙◌}
+use mathlib.Core.Path.{refl, ◌∙◌}
 use native.Mathlib.Omega.{arith}
-use lib.ListN.{length, take, length-set}
-use Rattle.octets.specs.Writing.{over}
+use lib.ListN.{length-set}
 use Rattle.octets.proofs.Writing.{over-turn, over_done, over_none}
 use Rattle.hexadecimal.specs.Hex.{octets_in}
 use Rattle.hexadecimal.proofs.Hex.{all_digits, length-octets, octet_at}
@@ -13,7 +10,7 @@ pub loop-i-init : goal.loop-i-init
 loop-i-init c = (omega arith, refl, over_none _)
 
 pub pair-requires : goal.pair-requires
-pair-requires c κs =
+pair-requires c =
     (all_digits c.args.s.now _ c.requires.2 (omega arith), all_digits c.args.s.now _ c.requires.2 (omega arith))
 
 pub loop-i-preserved : goal.loop-i-preserved

@@ -1,12 +1,8 @@
-use borrow.Author.Rules.{rules}
-use Prim.Native.Nat.{◌+◌, ◌-◌, ◌≤◌}
-use mathlib.Core.Path.{◌≡◌, refl, ◌∙◌}
-use native.Mathlib.Omega.{arith}
-use lib.ListN.{length, take, length-set}
+use Prim.Native.Nat.{◌-◌, ◌≤◌}
+use mathlib.Core.Path.{◌≡◌}
+use lib.ListN.{length, take}
 use Rattle.octets.specs.Writing.{over}
-use Rattle.octets.proofs.Writing.{over-turn, over_done, over_none}
 use Rattle.hexadecimal.specs.Hex.{octets_in}
-use Rattle.hexadecimal.proofs.Hex.{all_digits, length-octets, octet_at}
 use Rattle.hexadecimal.proofs.put_pairs.Given as goal
 
 abbrev pub invariant-loop-i : goal.invariant-loop-i

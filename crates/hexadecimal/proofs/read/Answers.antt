@@ -1,5 +1,4 @@
-use borrow.Author.Rules.{rules}
-use mathlib.Core.Path.{◌≡◌, refl, sym, ◌∙◌}
+use mathlib.Core.Path.{refl}
 use native.Mathlib.Omega.{arith}
 use Rattle.hexadecimal.specs.Hex.{left_by}
 use Rattle.hexadecimal.proofs.Hex.{digits_le, no_digit, odd_digit, no_room, octets}
@@ -18,7 +17,7 @@ unfolding left_by
 returns-then-buf-n c = record { value = no_room _ _ (omega (arith, c.digits-d.ensures)) (λ e. omega arith) (omega arith); buf_after = refl }
 
 pub put_pairs-requires : goal.put_pairs-requires
-put_pairs-requires c κs = (omega arith, omega arith, omega (arith, c.digits-d.ensures, digits_le c.args.s.now))
+put_pairs-requires c = (omega arith, omega arith, omega (arith, c.digits-d.ensures, digits_le c.args.s.now))
 
 pub returns : goal.returns
 unfolding left_by

@@ -1,4 +1,3 @@
-use borrow.Author.Rules.{rules}
 use native.Mathlib.Omega.{arith}
 use Rattle.hexadecimal.proofs.Values.{below_0, from_0, below_capital_a, from_capital_a, below_small_a, from_small_a, beyond}
 use Rattle.hexadecimal.proofs.value.Goals as goal
