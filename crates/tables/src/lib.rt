@@ -1,3 +1,5 @@
+#![tactic(auto)]
+
 // What start takes of its tables. What it does not take is number 14.
 ghost use Rattle.std.specs.Prelude.{◌≡◌, ◌<◌, ◌*◌};
 ghost use Rattle.flows.specs.Flows.{width};
