@@ -1,3 +1,5 @@
+#![tactic(auto)]
+
 // Whole replies, written into a lent buffer: what a header counts is written first, in its place after the header.
 ghost use Rattle.std.specs.Prelude.{◌≡◌, ◌++◌, ◌+◌, ◌≤◌, ◌<◌, length};
 ghost use Rattle.octets.specs.Writing.{over, Wrote};
