@@ -1,3 +1,5 @@
+#![tactic(auto)]
+
 // Exported for bench/flows.c alone: what is measured there.
 ghost use Rattle.std.specs.Prelude.{◌≡◌};
 ghost use Rattle.channels.specs.Channels.{channel_of};
