@@ -1,3 +1,5 @@
+#![tactic(auto)]
+
 // A reader that remembers its place in the message. The functions over it are thin: each takes it apart and leaves the work to
 // a function of crate items on slice and place.
 ghost use Rattle.std.specs.Prelude.{◌≡◌};
