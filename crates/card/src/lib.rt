@@ -1,3 +1,5 @@
+#![tactic(auto)]
+
 // The card: start; port up, port down, set delegation and leave, each on its parts.
 ghost use Rattle.std.specs.Prelude.{◌≡◌, Bool, true, List, ℕ, ◌<◌, length};
 ghost use Rattle.pool.specs.Pool.{pool_of, with_owner};

@@ -1,3 +1,5 @@
+#![tactic(auto)]
+
 // A port's active flows in order of family, group, source (none first).
 ghost use Rattle.std.specs.Prelude.{◌≡◌, Bool, List, [], ℕ, ◌+◌, ◌<◌, take};
 ghost use Rattle.octets.specs.Writing.{over};

@@ -10,8 +10,7 @@ use Rattle.card.specs.declared.Fresh.{Fresh}
 use Rattle.card.specs.declared.Core.{Core}
 use Rattle.card.specs.Start.{Started, StartGives, fresh_core, fresh_card, fresh_areas, first_ok, start_of}
 use borrow.Author.Rules.{rules}
-use Rattle.card.proofs.start.Statement.{statement}
-use Rattle.card.proofs.start.Tie as tie
+use Rattle.card.proofs.start.Goals as goal
 
 module _ (ids : List ℕ) (ports : ℕ) (channels : List ℕ) (channel_count : ℕ) (entries : List ℕ) (entry_count : ℕ) (white add : Bool) (first : ℕ) where
   abbrev s : Started
@@ -40,23 +39,14 @@ module _ (ids : List ℕ) (ports : ℕ) (channels : List ℕ) (channel_count : �
       go true h = absurd (h refl)
       go false h = record { number = refl; core = e; areas = refl }
 
-returns : tie.Need-returns
+pub returns-then-number-eq0 : goal.returns-then-number-eq0
+returns-then-number-eq0 c =
+    let a = c.args in
+    took a.ids.now a.port_count a.channels.now a.channel_count a.entries.now a.entry_count a.white_cac a.add_cac a.first
+    (sym (c.start_number-number.ensures a.white_cac a.add_cac) ∙ c.if-number-eq0.true) c.fresh_core.ensures
+
+pub returns : goal.returns
 returns c =
-    let a = c.before.before.before.args in
-    took a.ids.now a.port-count a.channels.now a.channel-count a.entries.now a.entry-count a.white-cac a.add-cac a.first
-    (sym (c.before.before.start-number.ensures a.white-cac a.add-cac) ∙ c.before.if1.true) c.fresh-core.ensures
-
-returns-2 : tie.Need-returns-2
-returns-2 c =
-    let a = c.before.before.before.args in
-    refused a.ids.now a.port-count a.channels.now a.channel-count a.entries.now a.entry-count a.white-cac a.add-cac a.first
-    (λ z. c.before.if1.false (c.before.before.start-number.ensures a.white-cac a.add-cac ∙ z)) c.fresh-core2.ensures
-
-pub start_spec : {M : Type 1} → statement M
-start_spec = tie.close
-    (tie.spec
-    (λ c κs. search rules)
-    (λ c κs. search rules)
-    returns
-    (λ c κs. search rules)
-    returns-2)
+    let a = c.args in
+    refused a.ids.now a.port_count a.channels.now a.channel_count a.entries.now a.entry_count a.white_cac a.add_cac a.first
+    (λ z. c.if-number-eq0.false (c.start_number-number.ensures a.white_cac a.add_cac ∙ z)) c.fresh_core-2.ensures
