@@ -1,3 +1,5 @@
+#![tactic(auto)]
+
 // What the card writes reads back: the statements are in specs/, their proofs in proofs/, and this crate's one function owes them.
 ghost use Rattle.std.specs.Prelude.{◌≡◌};
 ghost use Rattle.readback.specs.Reads.{ReadBack};
