@@ -1,3 +1,5 @@
+#![tactic(auto)]
+
 // A flow as a Multicast-Flow TLV (CARD.md, "Octets"): read from its content, and written.
 ghost use Rattle.std.specs.Prelude.{◌≡◌, true, ◌+◌, ◌*◌, ◌≤◌, ◌<◌, length, take};
 ghost use Rattle.octets.specs.Writing.{Wrote};

@@ -1,0 +1,12 @@
+use native.Mathlib.Omega.{arith}
+use borrow.Author.Tests.{eq-eqb, ne_eqb}
+use Rattle.flow_octets.specs.FlowOctets.{source_count}
+use Rattle.flow_octets.proofs.source_count.Goals as goal
+
+pub returns-then-sourced-eq0 : goal.returns-then-sourced-eq0
+unfolding source_count
+returns-then-sourced-eq0 c = record { value = simp (eq-eqb _ _ c.if-sourced-eq0.true); upper_bound = omega arith }
+
+pub returns-else-sourced-eq0 : goal.returns-else-sourced-eq0
+unfolding source_count
+returns-else-sourced-eq0 c = record { value = simp (ne_eqb _ _ c.if-sourced-eq0.false); upper_bound = omega arith }

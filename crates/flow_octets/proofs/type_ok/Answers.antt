@@ -1,0 +1,15 @@
+use borrow.Author.Tests.{eq-eqb, ne_eqb}
+use Rattle.flow_octets.specs.FlowOctets.{type_ok}
+use Rattle.flow_octets.proofs.type_ok.Goals as goal
+
+pub returns-then-kind-eq1 : goal.returns-then-kind-eq1
+unfolding type_ok
+returns-then-kind-eq1 c = simp (eq-eqb _ _ c.if-kind-eq1.true)
+
+pub returns-then-kind-eq2 : goal.returns-then-kind-eq2
+unfolding type_ok
+returns-then-kind-eq2 c = simp (ne_eqb _ _ c.if-kind-eq1.false, eq-eqb _ _ c.if-kind-eq2.true)
+
+pub returns : goal.returns
+unfolding type_ok
+returns c = simp (ne_eqb _ _ c.if-kind-eq1.false, ne_eqb _ _ c.if-kind-eq2.false)
