@@ -1,3 +1,5 @@
+#![tactic(auto)]
+
 // The messages that the card begins, written into a lent buffer.
 ghost use Rattle.std.specs.Prelude.{◌≡◌, ◌++◌, ◌≤◌, ◌<◌, length};
 ghost use Rattle.octets.specs.Writing.{Wrote};
