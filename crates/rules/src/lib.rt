@@ -1,3 +1,5 @@
+#![tactic(auto)]
+
 // What each message type asks, by its type: its Results, its transaction number, the TLVs that its rules name; which of
 // these are missing, and from which on one is at fault.
 ghost use Rattle.std.specs.Prelude.{◌≡◌, cond, not, ◌&&◌, ◌||◌, [], ◌∷◌, ◌≤◌, ◌<◌, length, eqb, ltb};
