@@ -16,8 +16,7 @@ use Rattle.rows.specs.Rows.{all_of, none_of, rows_ok}
 use Rattle.rows.proofs.Rows.{all_at, all_by}
 use Rattle.channels.specs.Channels.{channel_at, rate_at, is_row}
 use Rattle.circuits.specs.Circuits.{id_length, id_at, has_id}
-use Rattle.lists.specs.Lists.{entry_at}
-use Rattle.tables.specs.Tables.{id_ok, channel_ok, entry_ok, entry_ok_at, known_list, within_address, tables_ok}
+use Rattle.tables.specs.Tables.{id_ok, channel_ok, entry_ok, entry_ok_at, tables_ok}
 use Rattle.card.specs.Start.{Started, fresh_card, first_ok, start_of}
 use Rattle.faults.specs.Faults.{Check, check, all_pass, rows_from, port_checks, channel_checks, entry_checks, table_checks, start_checks}
 

@@ -1,3 +1,5 @@
+#![tactic(auto)]
+
 // Why start refuses its tables or its first number (number 14): the first test that fails, by table, row and field.
 ghost use Rattle.std.specs.Prelude.{◌≡◌, Bool, ◌<◌, eqb};
 ghost use Rattle.card.specs.Start.{start_of};

@@ -1,0 +1,35 @@
+use mathlib.Core.Path.{refl, sym, ap, ◌∙◌}
+use native.Mathlib.Omega.{arith}
+use borrow.Author.Tests.{le-leb, lt-leb}
+use Rattle.octets.specs.Tests.{every}
+use Rattle.rows.specs.Rows.{is_nothing}
+use Rattle.circuits.specs.Circuits.{id_length, id_at, port_of}
+use Rattle.tables.proofs.Tables.{unused_id}
+use Rattle.faults.specs.Faults.{port_checks}
+use Rattle.faults.proofs.Lists.{names-none, names-fails, names_on}
+use Rattle.faults.proofs.port_fault.Goals as goal
+
+pub returns-then-length-lt1 : goal.returns-then-length-lt1
+unfolding port_checks id_length every
+returns-then-length-lt1 c =
+    names-fails _ _ (simp (lt-leb _ _ c.if-length-lt1.true)) refl c.fault_at.ensures
+
+pub returns-then-length-gt63 : goal.returns-then-length-gt63
+unfolding port_checks id_length every
+returns-then-length-gt63 c =
+    names-fails _ _ (simp (le-leb _ _ c.if-length-lt1.false, lt-leb _ _ c.if-length-gt63.true)) refl c.fault_at-then-length-gt63.ensures
+
+pub returns-then-not-is_nothing : goal.returns-then-not-is_nothing
+unfolding port_checks id_length every
+returns-then-not-is_nothing c =
+    let a = c.args in
+    names_on _ _ (simp (le-leb _ _ c.if-length-lt1.false, le-leb _ _ c.if-length-gt63.false))
+    (names-fails _ _ (sym (c.is_nothing.ensures ∙ ap is_nothing (c.port_of.ensures ∙ ap (port_of a.ids.now a.p) c.id_at.ensures) ∙ unused_id a.ids.now (id_at a.ids.now a.p) a.p (omega arith)) ∙ c.if-not-is_nothing.true) refl c.fault_at-then-not-is_nothing.ensures)
+
+pub returns : goal.returns
+unfolding port_checks id_length every
+returns c =
+    let a = c.args in
+    names_on _ _ (simp (le-leb _ _ c.if-length-lt1.false, le-leb _ _ c.if-length-gt63.false))
+    (names_on _ _ (sym (c.is_nothing.ensures ∙ ap is_nothing (c.port_of.ensures ∙ ap (port_of a.ids.now a.p) c.id_at.ensures) ∙ unused_id a.ids.now (id_at a.ids.now a.p) a.p (omega arith)) ∙ c.if-not-is_nothing.false)
+    (names-none c.fault_at-2.ensures))
