@@ -1,3 +1,5 @@
+#![tactic(auto)]
+
 // The host's calls that may write a message: join and ask.
 ghost use Rattle.std.specs.Prelude.{◌≡◌, List, ℕ, ◌≤◌, ◌<◌, length};
 ghost use Rattle.pool.specs.Pool.{pool_of, Whole};
