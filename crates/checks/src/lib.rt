@@ -1,3 +1,5 @@
+#![tactic(auto)]
+
 // The rows of the card's table that all messages go through, and the refusals that answer them.
 ghost use Rattle.std.specs.Prelude.{◌≡◌, cond, List, ℕ, ◌≤◌, length, ltb};
 ghost use Rattle.octets.specs.Writing.{Wrote};
