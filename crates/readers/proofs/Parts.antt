@@ -4,9 +4,8 @@
 -- Assumes nothing.
 use Prim.Native.Nat.{ℕ}
 use mathlib.Core.Path.{◌≡◌, sym, ap, ◌∙◌}
-use mathlib.Core.Bool.{Bool, true, false, not}
+use mathlib.Core.Bool.{Bool, true, false}
 use mathlib.Core.List.{List}
-use borrow.Author.Tests.{not-true, not-false}
 use Rattle.octets.proofs.Tests.{taken}
 use Rattle.flows.specs.declared.Flow.{Flow}
 use Rattle.rows.specs.declared.Found.{Found}
@@ -17,11 +16,11 @@ use Rattle.readers.specs.Readers.{state_row, flow_state_at}
 
 -- b is what the reader's own test answered
 module _ (card : Card) (count p : ℕ) {b : Bool} (same : card.head.port_count ≡ count) (test : b ≡ is_port count p) where
-  pub is_port_lem : not b ≡ false → has_port card p ≡ true
-  is_port_lem h = ap (λ (n : ℕ). is_port n p) same ∙ sym test ∙ not-false _ h
+  pub is_port_lem : b ≡ true → has_port card p ≡ true
+  is_port_lem h = ap (λ (n : ℕ). is_port n p) same ∙ sym test ∙ h
 
-  pub not_port : not b ≡ true → has_port card p ≡ false
-  not_port h = ap (λ (n : ℕ). is_port n p) same ∙ sym test ∙ not-true _ h
+  pub not_port : b ≡ false → has_port card p ≡ false
+  not_port h = ap (λ (n : ℕ). is_port n p) same ∙ sym test ∙ h
 
 module _ (channels : List ℕ) (card : Card) (n p : ℕ) (f : Flow) (rows : card.head.channel_count ≡ n) (h : has_port card p ≡ true) (found : Found) (e : found ≡ channel_of channels n f) where
   row_is : found ≡ channel_of channels card.head.channel_count f

@@ -1,3 +1,5 @@
+#![tactic(auto)]
+
 // What a host may read of its card, where it lies: a reader is lent the maps that it looks at, and takes one port's
 // record by value. Each tests its port's number. Its contract speaks of every card with these parts.
 ghost use Rattle.std.specs.Prelude.{◌≡◌, Bool, List, ℕ};

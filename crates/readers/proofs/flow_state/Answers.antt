@@ -1,0 +1,37 @@
+use native.Mathlib.Omega.{arith}
+use mathlib.Core.Path.{◌≡◌, sym, ◌∙◌}
+use mathlib.Core.Bool.{true}
+use borrow.Author.Tests.{not-false}
+use Rattle.octets.proofs.Tests.{left}
+use Rattle.rows.specs.declared.Found.{Found}
+use Rattle.rows.specs.declared.Found.TheVariants.{At, Nothing}
+use Rattle.pool.specs.Pool.{pool_of}
+use Rattle.card.specs.Cards.{Card, has_port, with_pool}
+use Rattle.listing.specs.Listing.{active_row, active_at}
+use Rattle.readers.specs.Readers.{state_row, flow_state_at}
+use Rattle.readers.proofs.Parts.{is_port_lem, not_port, state_of_row, active_of_row}
+use borrow.Author.Rules.{rules}
+use Rattle.readers.proofs.flow_state.Goals as goal
+
+pub returns-then-not-is_port : goal.returns-then-not-is_port
+unfolding flow_state_at active_at
+returns-then-not-is_port c = record { state = λ card h k. left _ _ _ (not_port (with_pool card (pool_of c.args.owner.now c.args.channel.now c.args.charged.now c.args.accounting.now)) _ _ h c.is_port.ensures.test c.if-not-is_port.true); active = λ card h k. left _ _ _ (not_port (with_pool card (pool_of c.args.owner.now c.args.channel.now c.args.charged.now c.args.accounting.now)) _ _ h c.is_port.ensures.test c.if-not-is_port.true) }
+
+pub overflow_cast-p : goal.overflow_cast-p
+overflow_cast-p c = omega (arith, c.is_port.ensures.inside (c.if-not-is_port.false))
+
+pub returns-in-Nothing : goal.returns-in-Nothing
+unfolding state_row active_row
+returns-in-Nothing c =
+    let s = c in
+    let a = s.args in
+    let port : (card : Card) → card.head.port_count ≡ a.count → has_port card a.p ≡ true = λ card h. is_port_lem (with_pool card (pool_of s.args.owner.now s.args.channel.now s.args.charged.now s.args.accounting.now)) _ _ h c.is_port.ensures.test c.if-not-is_port.false in
+    let row = sym c.in-Nothing.is ∙ c.channel_of-found.ensures in record { state = λ card h k. state_of_row a.channels.now (with_pool card (pool_of s.args.owner.now s.args.channel.now s.args.charged.now s.args.accounting.now)) _ a.p a.f k (port card h) Nothing row; active = λ card h k. active_of_row a.channels.now (with_pool card (pool_of s.args.owner.now s.args.channel.now s.args.charged.now s.args.accounting.now)) _ a.p a.f k (port card h) Nothing row }
+
+pub returns-in-At : goal.returns-in-At
+unfolding state_row active_row
+returns-in-At c =
+    let s = c in
+    let a = s.args in
+    let port : (card : Card) → card.head.port_count ≡ a.count → has_port card a.p ≡ true = λ card h. is_port_lem (with_pool card (pool_of s.args.owner.now s.args.channel.now s.args.charged.now s.args.accounting.now)) _ _ h c.is_port.ensures.test c.if-not-is_port.false in
+    let row = sym c.in-At.is ∙ c.channel_of-found.ensures in record { state = λ card h k. c.state_of.ensures.state ∙ state_of_row a.channels.now (with_pool card (pool_of s.args.owner.now s.args.channel.now s.args.charged.now s.args.accounting.now)) _ a.p a.f k (port card h) (At _) row; active = λ card h k. c.state_of.ensures.active ∙ active_of_row a.channels.now (with_pool card (pool_of s.args.owner.now s.args.channel.now s.args.charged.now s.args.accounting.now)) _ a.p a.f k (port card h) (At _) row }
