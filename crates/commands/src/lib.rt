@@ -1,3 +1,5 @@
+#![tactic(auto)]
+
 // One command of a Multicast Replication Control message (144), on the pool's four maps, which are lent and changed in place.
 ghost use Rattle.std.specs.Prelude.{◌≡◌, Bool, List, ℕ, ◌<◌, length};
 ghost use Rattle.fields.specs.Fields.{command_in};

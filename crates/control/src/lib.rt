@@ -1,3 +1,5 @@
+#![tactic(auto)]
+
 // Multicast Replication Control (144) about port p, which passed the table: its commands in order.
 ghost use Rattle.std.specs.Prelude.{◌≡◌, ◌++◌, ◌≤◌, ◌<◌, length};
 ghost use Rattle.octets.specs.Writing.{Wrote};
