@@ -1,3 +1,5 @@
+#![tactic(auto)]
+
 // A Bandwidth Reallocation Request (146) and a Bandwidth Transfer (147) about the port of the terms, which passed the table.
 ghost use Rattle.std.specs.Prelude.{◌≡◌, List, ℕ, ◌≤◌, ◌<◌, min, max, length};
 ghost use Rattle.pool.specs.Pool.{pool_of};
