@@ -1,3 +1,5 @@
+#![tactic(auto)]
+
 // The answers to a Delegated Bandwidth Query (148) and a Multicast Flow Query (149) about the port of the terms, which passed the table.
 ghost use Rattle.std.specs.Prelude.{Bool, List, ◌++◌, ℕ, ◌≤◌, ◌<◌, length, take};
 ghost use Rattle.octets.specs.Writing.{Wrote};

@@ -1,0 +1,18 @@
+use mathlib.Core.Path.{◌≡◌, refl}
+use native.Mathlib.Omega.{arith}
+use lib.ListN.{length, take, length-drop}
+use Rattle.octets.specs.Writing.{Wrote}
+use Rattle.octets.proofs.Parts.{rest_part}
+use Rattle.octets.proofs.Writing.{over_none}
+use Rattle.begun.proofs.Sizes.{sized}
+use Rattle.queries.specs.Queries.{flow_tlvs}
+use Rattle.queries.proofs.Answers.{flows_turn, flows_most}
+use borrow.Author.Rules.{rules}
+use Prim.Native.Nat.{◌≤◌, ◌<◌, ◌-◌}
+use Rattle.queries.proofs.put_flows.Given as goal
+
+abbrev pub invariant-loop-i : goal.invariant-loop-i
+invariant-loop-i l = (l.i ≤ l.n) × (length l.buf ≡ length l.initial.buf) × Wrote (flow_tlvs l.channels (take l.i l.ks)) l.at l.initial.buf l.buf
+
+abbrev pub decreases-loop-i : goal.decreases-loop-i
+decreases-loop-i l = l.n - l.i
