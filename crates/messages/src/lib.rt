@@ -1,3 +1,5 @@
+#![tactic(auto)]
+
 // A message from the access server, check by check, and its answer.
 ghost use Rattle.std.specs.Prelude.{◌≡◌, List, ℕ, ◌≤◌, ◌<◌, length};
 ghost use Rattle.pool.specs.Pool.{pool_of, Whole};
