@@ -1,3 +1,5 @@
+#![tactic(auto)]
+
 // Demand 3: the statements are in specs/, their proofs in proofs/, and this crate's functions owe them.
 ghost use Rattle.std.specs.Prelude.{◌≡◌};
 ghost use Rattle.demand3.specs.Calls.{ours};
