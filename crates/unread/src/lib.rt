@@ -1,3 +1,5 @@
+#![tactic(auto)]
+
 // What is not read of a message that is handed in: the statements are in specs/, their proofs in proofs/, and this crate's one function
 // owes them.
 ghost use Rattle.std.specs.Prelude.{◌≡◌};
