@@ -1,3 +1,5 @@
+#![tactic(auto)]
+
 // Whose grants a card takes: the statements are in specs/, their proofs in proofs/; this crate's function owes them.
 ghost use Rattle.std.specs.Prelude.{◌≡◌};
 ghost use Rattle.grants.specs.Grants.{Grants};

@@ -1,3 +1,5 @@
+#![tactic(auto)]
+
 // Each kind of message that the card writes reads back, and fits the reply buffer: the statements are in specs/, their proofs in
 // proofs/, and this crate's one function owes them.
 ghost use Rattle.std.specs.Prelude.{◌≡◌};

@@ -1,3 +1,5 @@
+#![tactic(auto)]
+
 // The starred cases (CARD.md, "Worked cases"): the table is in specs/, its proof in proofs/, and this crate's function
 // owes it.
 ghost use Rattle.std.specs.Prelude.{◌≡◌, length};

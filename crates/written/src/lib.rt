@@ -1,3 +1,5 @@
+#![tactic(auto)]
+
 // Whatever a call writes is one kind of message with its arguments, and reads back as these: the statement is in specs/, its proof in
 // proofs/, and this crate's one function owes it.
 ghost use Rattle.std.specs.Prelude.{◌≡◌};
