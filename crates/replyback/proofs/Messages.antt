@@ -150,7 +150,7 @@ module _ (m : List ℕ) (octets : Octets m) (lo : 16 ≤ length m) (hi : length 
       commands-answer card number front [] e = success_answers card
       commands-answer card number front (c ∷ cs) e =
           by_cond (Replies m) (eqb (ran_of channels card p c).code 0) _ _
-          (λ _. commands-answer _ (number + 1) (front ++ (c ∷ [])) cs (e ∙ sym (append_assoc front (c ∷ []) cs)))
+          (λ _. commands-answer (ran_of channels card p c).card (number + 1) (front ++ (c ∷ [])) cs (e ∙ sym (append_assoc front (c ∷ []) cs)))
           (λ _. failure_answers card _ number c front cs (code_fits channels card p c) e)
 
       type_answers : (card : Card) → Replies m (by_type ids channels card h s p)

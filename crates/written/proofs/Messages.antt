@@ -146,7 +146,7 @@ module _ (t : Tables) (card : Card) (m : List ℕ) (space : ℕ) (octets : Octet
             all_writes now (subst (λ (cs : List (List ℕ)). AllRan t.channels p card cs now) (sym (e ∙ append-nil before)) r)
         commands-write now number before (c ∷ cs) n e r =
             by_cond So (eqb (ran_of t.channels now p c).code 0) _ _
-            (λ z. commands-write _ (number + 1) (before ++ (c ∷ [])) cs (omega (arith, length-append before (c ∷ [])))
+            (λ z. commands-write (ran_of t.channels now p c).card (number + 1) (before ++ (c ∷ [])) cs (omega (arith, length-append before (c ∷ [])))
             (e ∙ sym (append_assoc before (c ∷ []) cs)) (succeed-one c r (eqb-true _ _ z)))
             (λ z. let code : ℕ = (ran_of t.channels now p c).code in
             failed before cs v k e r (eqb-false _ _ z)
