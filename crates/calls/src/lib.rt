@@ -1,3 +1,5 @@
+#![tactic(auto)]
+
 // Any call, by its number: on a core by value, for programs, and on the parts of a card.
 ghost use Rattle.std.specs.Prelude.{◌≡◌, List, ℕ, ◌<◌, length};
 ghost use Rattle.pool.specs.Pool.{pool_of, Whole};
