@@ -1,3 +1,5 @@
+#![tactic(auto)]
+
 // The card for a host in C. A start writes a fresh card where the host keeps it; one function carries out any call on the card there; the
 // readers are lent its parts. include/ancp_card.h puts a name for each call above them.
 ghost use Rattle.std.specs.Prelude.{◌≡◌, Bool, List, ℕ, eqb};
