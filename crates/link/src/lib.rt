@@ -1,3 +1,5 @@
+#![tactic(auto)]
+
 // What a C host does with its card is a list of calls of demand 3: the statement is in specs/, its proof in proofs/, and
 // this crate's one function owes it.
 ghost use Rattle.std.specs.Prelude.{◌≡◌};
