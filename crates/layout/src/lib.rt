@@ -1,5 +1,7 @@
 // Exported for host/layout.c alone: each struct that a C host shares with the card, made of the values of its fields, so
 // that a program in C sees at which octets each field lies.
+#![tactic(auto)]
+
 ghost use Rattle.std.specs.Prelude.{◌≡◌, replicate};
 
 use calls::HostCall;

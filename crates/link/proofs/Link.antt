@@ -18,7 +18,7 @@ use Rattle.card.specs.Start.{Started, fresh_card, fresh_areas, first_ok, start_o
 use Rattle.demand3.specs.Calls.{Tables, Call, ours, outcome_of, started_of, card_after, history}
 use Rattle.demand3.specs.Calls.Call.{port_up, port_down, set_delegation, join, leave, ask, message}
 use Rattle.calls.specs.Calls.{tables_of}
-use Rattle.link.specs.Link.{Turn, Run, call_in, AllHave, Linked, StartTaken, Link}
+use Rattle.link.specs.Link.{Turn, Run, call_in, AllHave, StartTaken, Link}
 use Rattle.link.specs.Link.Run.{none, more}
 
 -- no call reads the counts and switches that the tables of demand 3 repeat: each reads those of the card

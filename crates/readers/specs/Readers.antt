@@ -1,6 +1,6 @@
 -- What a host may read of a card that lies in its memory: a reader is lent the parts that it looks at. Of a number that
 -- is no port's: no open request, no flow. Assumes nothing: these are definitions.
-use Rattle.std.specs.Prelude.{ℕ, ◌<◌, ◌≡◌, Bool, false, true, cond, List}
+use Rattle.std.specs.Prelude.{ℕ, ◌<◌, ◌≡◌, false, true, cond, List}
 use Rattle.flows.specs.declared.Flow.{Flow}
 use Rattle.rows.specs.declared.Found.{Found}
 use Rattle.rows.specs.declared.Found.TheVariants.{At, Nothing}

@@ -1,4 +1,3 @@
-use mathlib.Core.Path.{refl}
 use Rattle.pool.specs.Pool.{Whole}
 use Rattle.calls.proofs.Cases.{gives}
 use Rattle.card.specs.Cards.{no_areas}

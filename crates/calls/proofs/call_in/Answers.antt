@@ -4,7 +4,6 @@ use Rattle.pool.specs.Pool.{pool_of}
 use Rattle.card.specs.Cards.{Areas, no_areas, with_pool, with_areas}
 use Rattle.card.proofs.Parts.{areas_kept, areas_as}
 use Rattle.calls.proofs.Cases.{host_port, message_port, comes_for, of_host, of_message_lem}
-use borrow.Author.Rules.{rules}
 use Rattle.calls.proofs.call_in.Goals as goal
 
 pub returns-then-call-lt6 : goal.returns-then-call-lt6

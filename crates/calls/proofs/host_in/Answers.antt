@@ -1,4 +1,3 @@
-use mathlib.Core.Path.{◌≡◌}
 use lib.ListN.{length}
 use borrow.Author.Tests.{ne_eqb}
 use Rattle.pool.specs.declared.Pool.{Pool}
@@ -8,7 +7,6 @@ use Rattle.card.proofs.Parts.{areas_kept, areas_as}
 use Rattle.demand3.specs.Calls.{outcome_of}
 use Rattle.calls.specs.Calls.{hosted}
 use Rattle.calls.proofs.Cases.{of_number}
-use borrow.Author.Rules.{rules}
 use Rattle.calls.proofs.host_in.Goals as goal
 
 pub returns-then-call-eq-PORT_UP : goal.returns-then-call-eq-PORT_UP

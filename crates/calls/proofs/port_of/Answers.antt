@@ -1,6 +1,5 @@
 use borrow.Author.Tests.{lt-ltb, le-ltb}
 use Rattle.calls.specs.Calls.{port_about}
-use borrow.Author.Rules.{rules}
 use Rattle.calls.proofs.port_of.Goals as goal
 
 pub returns-then-call-lt6 : goal.returns-then-call-lt6

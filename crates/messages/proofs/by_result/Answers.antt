@@ -5,7 +5,6 @@ use Rattle.pool.specs.Pool.{pool_of}
 use Rattle.card.specs.Cards.{with_pool}
 use Rattle.card.proofs.Parts.{comes-kept, comes_as}
 use Rattle.messages.proofs.Cases.{answer-taken, answer_needed, answer_unasked, notice_taken, request_checked}
-use borrow.Author.Rules.{rules}
 use Rattle.messages.proofs.by_result.Goals as goal
 
 pub returns-then-answer : goal.returns-then-answer

@@ -6,7 +6,6 @@ use Rattle.pool.specs.Pool.{pool_of}
 use Rattle.card.specs.Cards.{with_pool}
 use Rattle.card.proofs.Parts.{comes_as}
 use Rattle.messages.proofs.Cases.{of_144, of_146, of_148, of_149}
-use borrow.Author.Rules.{rules}
 use Rattle.messages.proofs.by_type.Goals as goal
 
 pub returns-then-h-eq144 : goal.returns-then-h-eq144

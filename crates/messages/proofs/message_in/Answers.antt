@@ -5,7 +5,6 @@ use lib.ListN.{length}
 use lib.Dec.{ltb}
 use borrow.Author.Tests.{lt-ltb, le-ltb}
 use Rattle.octets.proofs.Parts.{rest_part}
-use Rattle.header.specs.declared.Header.{Header}
 use Rattle.header.specs.declared.Head.TheVariants.{Usable}
 use Rattle.header.specs.Header.{size_ok, header_in, head_in}
 use Rattle.pool.specs.declared.Pool.{Pool}
@@ -15,7 +14,6 @@ use Rattle.card.proofs.Parts.{comes-kept, comes_as}
 use Rattle.checks.specs.Table.{port_named}
 use Rattle.messages.specs.Messages.{by_result}
 use Rattle.messages.proofs.Cases.{size_least, rest_short, named_usable, right_by, no_room, unusable_is, usable_is}
-use borrow.Author.Rules.{rules}
 use Rattle.messages.proofs.message_in.Goals as goal
 
 pub returns-then-reply-lt4608 : goal.returns-then-reply-lt4608

@@ -9,7 +9,6 @@ use Rattle.checks.proofs.Rows.{located-by}
 use Rattle.transfers.specs.Transfers.{transferred}
 use Rattle.messages.specs.Messages.{offered}
 use Rattle.messages.proofs.Cases.{passed-at, verdict_offered}
-use borrow.Author.Rules.{rules}
 use Rattle.messages.proofs.offered.Goals as goal
 
 pub returns-in-Refused : goal.returns-in-Refused

@@ -1,12 +1,10 @@
 use native.Mathlib.Omega.{arith}
 use mathlib.Core.Path.{◌≡◌, sym, ap, ◌∙◌}
 use mathlib.Core.Bool.{true}
-use borrow.Author.Tests.{not-true, not-false}
 use Rattle.octets.proofs.Parts.{rest_part}
 use Rattle.header.specs.Header.{size_ok}
 use Rattle.checks.specs.Table.{port_named}
 use Rattle.messages.proofs.Cases.{size_least, named_size, named_unusable, named_usable}
-use borrow.Author.Rules.{rules}
 use Rattle.messages.proofs.port_named.Goals as goal
 
 pub returns-then-not-size_ok : goal.returns-then-not-size_ok

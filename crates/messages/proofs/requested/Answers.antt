@@ -6,7 +6,6 @@ use Rattle.card.proofs.Parts.{comes_replied, comes_as, comes_at}
 use Rattle.checks.proofs.Rows.{located-by}
 use Rattle.messages.specs.Messages.{by_type, requested}
 use Rattle.messages.proofs.Cases.{passed-at, verdict_requested}
-use borrow.Author.Rules.{rules}
 use Rattle.messages.proofs.requested.Goals as goal
 
 pub returns-in-Refused : goal.returns-in-Refused

@@ -1,14 +1,8 @@
-use mathlib.Core.Path.{◌≡◌, refl}
-use native.Mathlib.Omega.{arith}
-use lib.ListN.{length, take, length-drop}
+use mathlib.Core.Path.{◌≡◌}
+use lib.ListN.{length, take}
 use Rattle.octets.specs.Writing.{Wrote}
-use Rattle.octets.proofs.Parts.{rest_part}
-use Rattle.octets.proofs.Writing.{over_none}
-use Rattle.begun.proofs.Sizes.{sized}
 use Rattle.queries.specs.Queries.{flow_tlvs}
-use Rattle.queries.proofs.Answers.{flows_turn, flows_most}
-use borrow.Author.Rules.{rules}
-use Prim.Native.Nat.{◌≤◌, ◌<◌, ◌-◌}
+use Prim.Native.Nat.{◌≤◌, ◌-◌}
 use Rattle.queries.proofs.put_flows.Given as goal
 
 abbrev pub invariant-loop-i : goal.invariant-loop-i

@@ -8,7 +8,6 @@ use Rattle.writers.specs.Tlvs.{target_of}
 use Rattle.replies.specs.Replies.{reply_header}
 use Rattle.queries.specs.Queries.{flow_tlvs, flows_reply}
 use Rattle.queries.proofs.Answers.{body_size}
-use borrow.Author.Rules.{rules}
 use Rattle.queries.proofs.put_listing.Goals as goal
 
 pub put_header-requires : goal.put_header-requires

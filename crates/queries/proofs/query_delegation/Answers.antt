@@ -10,7 +10,6 @@ use Rattle.card.specs.Cards.{with_pool}
 use Rattle.card.specs.Outcome.{writes}
 use Rattle.card.proofs.Parts.{record_is, comes_replied}
 use Rattle.queries.specs.Queries.{delegation_query}
-use borrow.Author.Rules.{rules}
 use Rattle.queries.proofs.query_delegation.Goals as goal
 
 pub put_amount-n-requires : goal.put_amount-n-requires

@@ -13,7 +13,6 @@ use Rattle.listing.specs.Listing.{rows_in_order}
 use Rattle.listing.proofs.Listings.{found_few, rows-listed}
 use Rattle.queries.specs.Queries.{flows_reply, flow_query}
 use Rattle.card.proofs.Parts.{comes_replied}
-use borrow.Author.Rules.{rules}
 use Rattle.queries.proofs.query_flows.Goals as goal
 
 pub put_listing-n-requires : goal.put_listing-n-requires

@@ -1,11 +1,8 @@
 use mathlib.Core.Path.{sym, ap, ◌∙◌}
-use Prim.Native.Nat.{◌<◌}
-use borrow.Author.Tests.{not-false}
 use Rattle.octets.proofs.Tests.{taken, left}
 use Rattle.ports.specs.declared.Port.{Port}
 use Rattle.card.specs.Figures.{delegation_of}
 use Rattle.readers.proofs.Parts.{is_port_lem, not_port}
-use borrow.Author.Rules.{rules}
 use Rattle.readers.proofs.delegation.Goals as goal
 
 pub returns-then-not-is_port : goal.returns-then-not-is_port

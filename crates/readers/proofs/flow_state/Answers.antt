@@ -1,16 +1,13 @@
 use native.Mathlib.Omega.{arith}
 use mathlib.Core.Path.{◌≡◌, sym, ◌∙◌}
 use mathlib.Core.Bool.{true}
-use borrow.Author.Tests.{not-false}
 use Rattle.octets.proofs.Tests.{left}
-use Rattle.rows.specs.declared.Found.{Found}
 use Rattle.rows.specs.declared.Found.TheVariants.{At, Nothing}
 use Rattle.pool.specs.Pool.{pool_of}
 use Rattle.card.specs.Cards.{Card, has_port, with_pool}
 use Rattle.listing.specs.Listing.{active_row, active_at}
 use Rattle.readers.specs.Readers.{state_row, flow_state_at}
 use Rattle.readers.proofs.Parts.{is_port_lem, not_port, state_of_row, active_of_row}
-use borrow.Author.Rules.{rules}
 use Rattle.readers.proofs.flow_state.Goals as goal
 
 pub returns-then-not-is_port : goal.returns-then-not-is_port

@@ -1,13 +1,11 @@
 use native.Mathlib.Omega.{arith}
 use mathlib.Core.Path.{ap, ◌∙◌}
 use mathlib.Core.List.{[]}
-use borrow.Author.Tests.{not-false}
 use Rattle.octets.proofs.Tests.{taken, left}
 use Rattle.octets.specs.Writing.{over}
 use Rattle.pool.specs.Pool.{as_rows}
 use Rattle.listing.specs.Listing.{flows_at}
 use Rattle.readers.proofs.Parts.{is_port_lem, not_port}
-use borrow.Author.Rules.{rules}
 use Rattle.readers.proofs.flows_of.Goals as goal
 
 pub returns-then-not-is_port : goal.returns-then-not-is_port

@@ -1,17 +1,11 @@
 use native.Mathlib.Omega.{arith}
 use mathlib.Core.Path.{sym, ◌∙◌}
-use mathlib.Core.Bool.{Bool}
-use mathlib.Core.List.{List}
-use Prim.Native.Nat.{ℕ}
-use borrow.Author.Tests.{not-false}
 use Rattle.octets.proofs.Tests.{left}
-use Rattle.rows.specs.declared.Found.{Found}
 use Rattle.rows.specs.declared.Found.TheVariants.{At, Nothing}
 use Rattle.pool.specs.Pool.{pool_of}
-use Rattle.card.specs.Cards.{Card, with_pool}
+use Rattle.card.specs.Cards.{with_pool}
 use Rattle.listing.specs.Listing.{active_row, active_at}
 use Rattle.readers.proofs.Parts.{is_port_lem, not_port, active_of_row}
-use borrow.Author.Rules.{rules}
 use Rattle.readers.proofs.is_active.Goals as goal
 
 pub returns-then-not-is_port : goal.returns-then-not-is_port

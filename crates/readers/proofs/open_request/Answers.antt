@@ -1,9 +1,7 @@
 use mathlib.Core.Path.{sym, ap, ◌∙◌}
-use borrow.Author.Tests.{not-false}
 use Rattle.octets.proofs.Tests.{taken, left}
 use Rattle.readers.specs.Readers.{open_request_in, open_request_of}
 use Rattle.readers.proofs.Parts.{is_port_lem, not_port}
-use borrow.Author.Rules.{rules}
 use Rattle.readers.proofs.open_request.Goals as goal
 
 pub returns-then-not-is_port : goal.returns-then-not-is_port

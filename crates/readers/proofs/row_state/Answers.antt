@@ -1,10 +1,8 @@
 use native.Mathlib.Omega.{arith}
 use mathlib.Core.Path.{◌∙◌}
-use borrow.Author.Tests.{not-false}
 use Rattle.octets.proofs.Tests.{taken, left}
 use Rattle.readers.specs.Readers.{row_state_at}
 use Rattle.readers.proofs.Parts.{is_port_lem, not_port}
-use borrow.Author.Rules.{rules}
 use Rattle.readers.proofs.row_state.Goals as goal
 
 pub returns-then-not-is_port : goal.returns-then-not-is_port

@@ -9,7 +9,6 @@ use Rattle.pool.specs.Pool.{pool_of}
 use Rattle.card.specs.Cards.{with_pool}
 use Rattle.card.proofs.Parts.{record_is, comes_as}
 use Rattle.transfers.proofs.Cases.{more_preferred, under_committed, gives_up}
-use borrow.Author.Rules.{rules}
 use Rattle.transfers.proofs.reallocate.Goals as goal
 
 pub returns-then-r : goal.returns-then-r

@@ -1,5 +1,4 @@
 use native.Mathlib.Omega.{arith}
-use mathlib.Core.Logic.{⊎_elim}
 use Rattle.transfers.proofs.reduced.Goals as goal
 use Rattle.transfers.proofs.reduced.Goals.{then-preferred-present, else-preferred-present}
 

@@ -1,13 +1,12 @@
 use mathlib.Core.Path.{◌≡◌, refl, sym, ◌∙◌}
 use mathlib.Core.Bool.{true, false}
 use lib.Dec.{eqb}
-use borrow.Author.Tests.{not-true, not-false, eq-eqb, ne_eqb}
+use borrow.Author.Tests.{eq-eqb, ne_eqb}
 use Rattle.ports.specs.declared.Change.TheVariants.{Delegated, Closed}
 use Rattle.ports.specs.Ports.{answers}
 use Rattle.card.specs.Cards.{with_pool}
 use Rattle.card.proofs.Parts.{record_is, comes-kept, comes-wrote, none_written}
 use Rattle.transfers.proofs.Cases.{none_answered, refused, outside, taken-up}
-use borrow.Author.Rules.{rules}
 use Rattle.transfers.proofs.transfer.Goals as goal
 
 pub returns-then-not-answers : goal.returns-then-not-answers
