@@ -4,6 +4,7 @@
 --     other_row         a row whose group differs in a word is not the flow's
 --     row_skip          a search goes on to the next row that has a word of the flow's group
 -- Assumes nothing.
+use Rattle.std.specs.Prelude.{Option, Some, None}
 use Prim.Native.Nat.{ℕ, zero, suc, ◌+◌, ◌*◌, ◌-◌, ◌<◌, min}
 use mathlib.Core.Path.{◌≡◌, refl, sym, ap, ◌∙◌}
 use mathlib.Core.Bool.{false, false≢true}
@@ -16,8 +17,6 @@ use Rattle.flows.specs.Flows.{same_flow}
 use Rattle.flows.specs.declared.Flow.{Flow}
 use Rattle.flows.proofs.Same.{same-flow_eq, same-flow_refl}
 use Rattle.rows.specs.Rows.{first_from, NextWith}
-use Rattle.rows.specs.declared.Found.{Found}
-use Rattle.rows.specs.declared.Found.TheVariants.{At, Nothing}
 use Rattle.rows.proofs.Rows.{found_at, found_none}
 use Rattle.rows.proofs.Nexts.{first-over}
 use Rattle.channels.specs.Channels.{channel_at, group_word, is_row, channel_of}
@@ -32,7 +31,7 @@ pub record ChannelFound (t : List ℕ) (n : ℕ) (f : Flow) (i : ℕ) : Type 0 w
   pub first : (j : ℕ) → j < i → channel_at t j ≡ f → ⊥
 
 module _ (t : List ℕ) (n : ℕ) (f : Flow) where
-  pub channel-found : {i : ℕ} → channel_of t n f ≡ At i → ChannelFound t n f i
+  pub channel-found : {i : ℕ} → channel_of t n f ≡ Some i → ChannelFound t n f i
   unfolding channel_of
   channel-found e =
       let g = found_at (is_row t f) (min n 256) e in
@@ -43,7 +42,7 @@ module _ (t : List ℕ) (n : ℕ) (f : Flow) where
         first = λ j l s. differ (channel_at t j) f (g.first j l) s;
       }
 
-  pub channel-none : channel_of t n f ≡ Nothing → (i : ℕ) → i < n → i < 256 → channel_at t i ≡ f → ⊥
+  pub channel-none : channel_of t n f ≡ None → (i : ℕ) → i < n → i < 256 → channel_at t i ≡ f → ⊥
   unfolding channel_of
   channel-none e i l m s = differ (channel_at t i) f (found_none (is_row t f) (min n 256) e i (omega arith)) s
 
@@ -61,6 +60,6 @@ other_row t i k f h n =
     sym (false_by (same_flow (channel_at t i) f) (λ e.
     n (sym (address_at_lem t (i * 11 + 3) k h) ∙ ap (λ (g : Flow). get_or g.group k 0) (same-flow_eq (channel_at t i) f e))))
 
-pub row_skip : (t : List ℕ) (k : ℕ) (f : Flow) (i n : ℕ) {j : ℕ} {r : Found} → k < 4 → r ≡ first_from i (n - i) (is_row t f)
+pub row_skip : (t : List ℕ) (k : ℕ) (f : Flow) (i n : ℕ) {j : ℕ} {r : Option ℕ} → k < 4 → r ≡ first_from i (n - i) (is_row t f)
     → NextWith (group_word t k) (get_or f.group k 0) n i j → r ≡ first_from j (n - j) (is_row t f)
 row_skip t k f i n {j} h inv x = first-over (is_row t f) i n j inv x.reached x.most (λ m a b. other_row t m k f h (x.others m a b))

@@ -1,10 +1,9 @@
 -- The channel table as rows. Assumes nothing: these are definitions.
-use Rattle.std.specs.Prelude.{ℕ, ◌+◌, ◌*◌, min, Bool, List, get_or}
+use Rattle.std.specs.Prelude.{ℕ, ◌+◌, ◌*◌, min, Bool, List, get_or, Option}
 use Rattle.flows.specs.Words.{address_at}
 use Rattle.flows.specs.Flows.{same_flow}
 use Rattle.flows.specs.declared.Flow.{Flow}
 use Rattle.rows.specs.Rows.{first_row}
-use Rattle.rows.specs.declared.Found.{Found}
 
 -- row i of 11 words: family, sourced, rate, group, source
 unfoldable pub channel_at : List ℕ → ℕ → Flow
@@ -27,5 +26,5 @@ abbrev pub is_row : List ℕ → Flow → ℕ → Bool
 is_row t f i = same_flow (channel_at t i) f
 
 -- the first of n channels that is the flow's; the table has 256 rows
-unfoldable pub channel_of : List ℕ → ℕ → Flow → Found
+unfoldable pub channel_of : List ℕ → ℕ → Flow → Option ℕ
 channel_of t n f = first_row (min n 256) (is_row t f)

@@ -6,7 +6,7 @@ ghost use Rattle.rows.specs.Rows.{none_of, NextWith};
 ghost use Rattle.channels.specs.Channels.{channel_at, rate_at, group_word, channel_of};
 
 use flows::{Flow, same_flow, width};
-use rows::{Found, at_most};
+use rows::at_most;
 
 // The flow of row i.
 pub fn channel_at(channels: &[u32; 2816], i: u8) -> Flow
@@ -41,7 +41,7 @@ pub fn rate_at(channels: &[u32; 2816], i: u8) -> u32
 }
 
 // The row of a flow. Channels differ most often in the last word of the group: only rows that have it are compared whole.
-pub fn channel_of(channels: &[u32; 2816], n: usize, f: Flow) -> Found
+pub fn channel_of(channels: &[u32; 2816], n: usize, f: Flow) -> Option<u8>
     ensures { result ≡ channel_of channels.now n f }
 {
     let k = width(f.family) - 1;
@@ -52,11 +52,11 @@ pub fn channel_of(channels: &[u32; 2816], n: usize, f: Flow) -> Found
     loop {
         let i = next_row(channels, rows, k, last, from);
         if rows <= i {
-            return Found::Nothing;
+            return None;
         }
         let row = channel_at(channels, i as u8);
         if same_flow(row, f) {
-            return Found::At(i as u8);
+            return Some(i as u8);
         }
         from = i + 1;
     }

@@ -7,6 +7,7 @@
 --     refused-tells    the codes with which a message can be refused, each with the test that failed and those before it
 --     passes           what a message must show to pass
 -- Assumes nothing.
+use Rattle.std.specs.Prelude.{Option, Some, None}
 use mathlib.Core.Path.{◌≡◌, refl, sym, ap, ◌∙◌}
 use mathlib.Core.Bool.{Bool, true, false, cond}
 use mathlib.Core.List.{List, [], ◌∷◌}
@@ -18,8 +19,6 @@ use borrow.Author.Tests.{ltb-true, ltb-false, eqb-true, eqb-false, eq-eqb, ne_eq
 use Rattle.header.specs.declared.Header.{Header}
 use Rattle.tlv.specs.Depth.{depth_of, list_ok}
 use Rattle.items.specs.Items.{items_of}
-use Rattle.rows.specs.declared.Found.{Found}
-use Rattle.rows.specs.declared.Found.TheVariants.{At, Nothing}
 use Rattle.circuits.specs.Circuits.{port_of}
 use Rattle.circuits.proofs.Circuits.{port_found}
 use Rattle.pool.specs.declared.Pool.{Pool}
@@ -71,22 +70,22 @@ module _ (ids : List ℕ) (card : Card) (kind : ℕ) (s : List ℕ) where
 
 -- ---- the port by its number
 module _ (ids : List ℕ) (count : ℕ) (s : List ℕ) where
-  found_at : (f : Found) → number_of f < 64 → f ≡ At (number_of f)
+  found_at : (f : Option ℕ) → number_of f < 64 → f ≡ Some (number_of f)
   unfolding number_of
-  found_at Nothing l = absurd (omega (arith, l))
-  found_at (At p) l = refl
+  found_at None l = absurd (omega (arith, l))
+  found_at (Some p) l = refl
 
-  none-at : (f : Found) → port_of ids count (id_in s) ≡ f → 64 ≤ number_of f → f ≡ Nothing
+  none-at : (f : Option ℕ) → port_of ids count (id_in s) ≡ f → 64 ≤ number_of f → f ≡ None
   unfolding number_of
-  none-at Nothing e l = refl
-  none-at (At p) e l = absurd (omega (arith, l, (port_found ids count (id_in s) e).small))
+  none-at None e l = refl
+  none-at (Some p) e l = absurd (omega (arith, l, (port_found ids count (id_in s) e).small))
 
   module _ {named : ℕ} (e : named ≡ port_named ids count s) where
-    pub is_named : named < 64 → port_of ids count (id_in s) ≡ At named
+    pub is_named : named < 64 → port_of ids count (id_in s) ≡ Some named
     unfolding port_named
-    is_named l = found_at (port_of ids count (id_in s)) (omega (arith, e)) ∙ ap At (sym e)
+    is_named l = found_at (port_of ids count (id_in s)) (omega (arith, e)) ∙ ap Some (sym e)
 
-    pub none_named : 64 ≤ named → port_of ids count (id_in s) ≡ Nothing
+    pub none_named : 64 ≤ named → port_of ids count (id_in s) ≡ None
     unfolding port_named
     none_named l = none-at (port_of ids count (id_in s)) refl (omega (arith, e))
 
@@ -117,7 +116,7 @@ pub record TablePassed (ids : List ℕ) (card : Card) (h : Header) (s : List ℕ
   pub sound : list_ok (depth_of h.result) false s ≡ true
   pub whole : missing (rules_of h.kind) (items_of s) ≡ []
   pub faultless : faults h.kind s ≡ []
-  pub found : port_of ids card.head.port_count (id_in s) ≡ At p
+  pub found : port_of ids card.head.port_count (id_in s) ≡ Some p
   pub small : p < 64
   pub below : p < card.head.port_count
   pub up : (port_at card p).up ≡ true
@@ -139,9 +138,9 @@ pub data TableRefused (ids : List ℕ) (card : Card) (h : Header) (s : List ℕ)
   lacking : Sound h s → (missing (rules_of h.kind) (items_of s) ≡ [] → ⊥) → TableRefused ids card h s 0x54
   faulty : Sound h s → missing (rules_of h.kind) (items_of s) ≡ [] → (faults h.kind s ≡ [] → ⊥) → TableRefused ids card h s 0x55
   unknown : Sound h s → missing (rules_of h.kind) (items_of s) ≡ [] → faults h.kind s ≡ []
-      → port_of ids card.head.port_count (id_in s) ≡ Nothing → TableRefused ids card h s 0x500
+      → port_of ids card.head.port_count (id_in s) ≡ None → TableRefused ids card h s 0x500
   down : {p : ℕ} → Sound h s → missing (rules_of h.kind) (items_of s) ≡ [] → faults h.kind s ≡ []
-      → port_of ids card.head.port_count (id_in s) ≡ At p → (port_at card p).up ≡ false → TableRefused ids card h s 0x6
+      → port_of ids card.head.port_count (id_in s) ≡ Some p → (port_at card p).up ≡ false → TableRefused ids card h s 0x6
 
 pub empty : {A : Type 0} (l : List A) → length l ≡ 0 → l ≡ []
 empty [] e = refl
@@ -156,7 +155,7 @@ module _ (ids : List ℕ) (card : Card) (h : Header) (s : List ℕ) where
   Tells (Passed p) = TablePassed ids card h s p
 
   module _ (past : Sound h s) (whole : missing (rules_of h.kind) (items_of s) ≡ []) (faultless : faults h.kind s ≡ []) where
-    up-tells : (p : ℕ) → port_of ids card.head.port_count (id_in s) ≡ At p → (b : Bool) → (port_at card p).up ≡ b → Tells (cond b (Passed p) (Refused 0x6))
+    up-tells : (p : ℕ) → port_of ids card.head.port_count (id_in s) ≡ Some p → (b : Bool) → (port_at card p).up ≡ b → Tells (cond b (Passed p) (Refused 0x6))
     up-tells p e true u =
         let g = port_found ids card.head.port_count (id_in s) e in
         record {
@@ -173,10 +172,10 @@ module _ (ids : List ℕ) (card : Card) (h : Header) (s : List ℕ) where
         }
     up-tells p e false u = down past whole faultless e u
 
-    port_tells : (f : Found) → port_of ids card.head.port_count (id_in s) ≡ f → Tells (located card f)
+    port_tells : (f : Option ℕ) → port_of ids card.head.port_count (id_in s) ≡ f → Tells (located card f)
     unfolding located
-    port_tells Nothing e = unknown past whole faultless e
-    port_tells (At p) e = up-tells p e (port_at card p).up refl
+    port_tells None e = unknown past whole faultless e
+    port_tells (Some p) e = up-tells p e (port_at card p).up refl
 
   named_tells : Sound h s → (a b : Bool) → eqb (absences h.kind s) 0 ≡ a → eqb (length (faults h.kind s)) 0 ≡ b
       → Tells (cond a (cond b (located card (port_of ids card.head.port_count (id_in s))) (Refused 0x55)) (Refused 0x54))

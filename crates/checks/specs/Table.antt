@@ -1,7 +1,7 @@
 -- The table of result codes (CARD.md, "A message, check by check"): row by row, each over the whole message before the
 -- next, and what the Status-Info of each encloses. s is what follows the header. Assumes nothing: these are
 -- definitions.
-use Rattle.std.specs.Prelude.{ℕ, ◌<◌, ◌≡◌, Bool, false, cond, ◌||◌, List, [], ◌∷◌, length, eqb}
+use Rattle.std.specs.Prelude.{ℕ, ◌<◌, ◌≡◌, Bool, false, cond, ◌||◌, List, [], ◌∷◌, length, eqb, Option, Some, None}
 use Rattle.header.specs.declared.Header.{Header}
 use Rattle.tlv.specs.Depth.{depth_of, list_ok}
 use Rattle.items.specs.Items.{Item, items_of, first_of}
@@ -10,8 +10,6 @@ use Rattle.writers.specs.Tlvs.{tlv_of, target_of}
 use Rattle.replies.specs.Replies.{refusal_of}
 use Rattle.rules.specs.Rules.{handled, result_ok, transaction_ok, rules_of}
 use Rattle.rules.specs.Named.{missing, bares, from_fault}
-use Rattle.rows.specs.declared.Found.{Found}
-use Rattle.rows.specs.declared.Found.TheVariants.{At, Nothing}
 use Rattle.circuits.specs.Circuits.{port_of}
 use Rattle.card.specs.Cards.{Card, port_at}
 use Rattle.checks.specs.declared.Verdict.{Verdict}
@@ -24,9 +22,9 @@ unfoldable pub id_in : List ℕ → List ℕ
 id_in s = circuit_id (first_of 0x1000 (items_of s))
 
 -- the port that is found; 64 where none is
-unfoldable pub number_of : Found → ℕ
-number_of Nothing = 64
-number_of (At p) = p
+unfoldable pub number_of : Option ℕ → ℕ
+number_of None = 64
+number_of (Some p) = p
 
 -- the port whose circuit id stands in the message's Target, among the first `count`; 64 where it is no port's
 unfoldable pub port_named : List ℕ → ℕ → List ℕ → ℕ
@@ -38,9 +36,9 @@ pub record Located (ids : List ℕ) (card : Card) (s : List ℕ) (named : ℕ) (
   pub state : named < 64 → (port_at card named).up ≡ up
 
 -- port unknown, port down
-unfoldable pub located : Card → Found → Verdict
-located card Nothing = Refused 0x500
-located card (At p) = cond (port_at card p).up (Passed p) (Refused 0x6)
+unfoldable pub located : Card → Option ℕ → Verdict
+located card None = Refused 0x500
+located card (Some p) = cond (port_at card p).up (Passed p) (Refused 0x6)
 
 -- the TLVs from the first one at fault on, in a message of a type
 abbrev pub faults : ℕ → List ℕ → List Item

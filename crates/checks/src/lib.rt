@@ -13,7 +13,6 @@ ghost use Rattle.checks.specs.Table.{id_in, port_named, HasFields, Located, loca
 
 use fields::TARGET;
 use header::Header;
-use rows::Found;
 use rules::Extent;
 use tlv::First;
 
@@ -31,8 +30,8 @@ pub fn port_named(ids: &[u8; 4096], port_count: usize, tlvs: &[u8]) -> usize
 {
     let found = circuits::port_of(ids, port_count, id_in(tlvs));
     match found {
-        Found::Nothing => 64,
-        Found::At(p) => p as usize,
+        None => 64,
+        Some(p) => p as usize,
     }
 }
 

@@ -7,6 +7,7 @@
 --     other_id             a row with another octet in one place does not have the id
 --     id_skip              a search goes on to the next row that has the id's octet in that place
 -- Assumes nothing.
+use Rattle.std.specs.Prelude.{Option, Some, None}
 use Prim.Native.Nat.{ℕ, suc, ◌+◌, ◌-◌, ◌*◌, ◌%◌, ◌≤◌, ◌<◌, min}
 use mathlib.Core.Path.{◌≡◌, refl, sym, ap, ap₂, ◌∙◌}
 use mathlib.Core.Bool.{Bool, false, ◌&&◌, and-true, and-false, false≢true}
@@ -19,8 +20,6 @@ use borrow.Author.Tests.{eq-eqb, ne_eqb, le-ltb}
 use Rattle.flows.specs.Words.{same}
 use Rattle.flows.proofs.Same.{same-append, same_eq, same_refl, same-off}
 use Rattle.rows.specs.Rows.{first_from, NextWith}
-use Rattle.rows.specs.declared.Found.{Found}
-use Rattle.rows.specs.declared.Found.TheVariants.{At, Nothing}
 use Rattle.rows.proofs.Rows.{found_at, found_none}
 use Rattle.rows.proofs.Nexts.{first-over}
 use Rattle.circuits.specs.Circuits.{id_length, id_at, id_octet, has_id, port_of}
@@ -67,7 +66,7 @@ module _ (ids : List ℕ) (n : ℕ) (id : List ℕ) where
   differ : (p : ℕ) → has_id ids id p ≡ false → id_at ids p ≡ id → ⊥
   differ p e s = false≢true (sym e ∙ ap (λ (l : List ℕ). same l id) s ∙ same_refl id)
 
-  pub port_found : {p : ℕ} → port_of ids n id ≡ At p → PortFound ids n id p
+  pub port_found : {p : ℕ} → port_of ids n id ≡ Some p → PortFound ids n id p
   unfolding port_of
   port_found {p} e =
       let g = found_at (has_id ids id) (min n 64) e in
@@ -78,7 +77,7 @@ module _ (ids : List ℕ) (n : ℕ) (id : List ℕ) where
         first = λ q l s. differ q (g.first q l) s;
       }
 
-  pub port_none : port_of ids n id ≡ Nothing → (p : ℕ) → p < n → p < 64 → id_at ids p ≡ id → ⊥
+  pub port_none : port_of ids n id ≡ None → (p : ℕ) → p < n → p < 64 → id_at ids p ≡ id → ⊥
   unfolding port_of
   port_none e p l m s = differ p (found_none (has_id ids id) (min n 64) e p (omega arith)) s
 
@@ -99,6 +98,6 @@ module _ (ids id : List ℕ) (k : ℕ) (h : 0 < k) (l : k ≤ length id) where
   pub other_id : (p : ℕ) → (id_octet ids k p ≡ get_or id (k - 1) 0 → ⊥) → has_id ids id p ≡ false
   other_id p n = same-off (id_at ids p) id (λ e. n (octet_there p e))
 
-  pub id_skip : (i n : ℕ) {j : ℕ} {r : Found} → r ≡ first_from i (n - i) (has_id ids id)
+  pub id_skip : (i n : ℕ) {j : ℕ} {r : Option ℕ} → r ≡ first_from i (n - i) (has_id ids id)
       → NextWith (id_octet ids k) (get_or id (k - 1) 0) n i j → r ≡ first_from j (n - j) (has_id ids id)
   id_skip i n {j} inv x = first-over (has_id ids id) i n j inv x.reached x.most (λ m a b. other_id m (x.others m a b))

@@ -1,8 +1,7 @@
 -- The circuit ids of the ports. Assumes nothing: these are definitions.
-use Rattle.std.specs.Prelude.{ℕ, ◌+◌, ◌*◌, ◌%◌, min, Bool, List, get_or, take, drop}
+use Rattle.std.specs.Prelude.{ℕ, ◌+◌, ◌*◌, ◌%◌, min, Bool, List, get_or, take, drop, Option}
 use Rattle.flows.specs.Words.{same}
 use Rattle.rows.specs.Rows.{first_row}
-use Rattle.rows.specs.declared.Found.{Found}
 
 -- what row p of 64 octets says of the id's length
 unfoldable pub id_length : List ℕ → ℕ → ℕ
@@ -21,5 +20,5 @@ abbrev pub has_id : List ℕ → List ℕ → ℕ → Bool
 has_id ids id p = same (id_at ids p) id
 
 -- the first of n ports that has the circuit id; the table has 64 rows
-unfoldable pub port_of : List ℕ → ℕ → List ℕ → Found
+unfoldable pub port_of : List ℕ → ℕ → List ℕ → Option ℕ
 port_of ids n id = first_row (min n 64) (has_id ids id)

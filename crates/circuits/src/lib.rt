@@ -6,7 +6,7 @@ ghost use Rattle.flows.specs.Words.{same};
 ghost use Rattle.rows.specs.Rows.{first_row, none_of, NextWith};
 ghost use Rattle.circuits.specs.Circuits.{id_at, id_octet, has_id, port_of};
 
-use rows::{Found, at_most};
+use rows::at_most;
 
 // The circuit id of port p.
 pub fn id_at<'a>(ids: &'a [u8; 4096], p: u8) -> &'a [u8]
@@ -18,7 +18,7 @@ pub fn id_at<'a>(ids: &'a [u8; 4096], p: u8) -> &'a [u8]
 
 // The port that a circuit id names. An id of 1 to 63 octets is compared only with rows that have its octet k there:
 // first its last, then the one in which the row before differed, since ids may begin alike and end alike.
-pub fn port_of(ids: &[u8; 4096], n: usize, id: &[u8]) -> Found
+pub fn port_of(ids: &[u8; 4096], n: usize, id: &[u8]) -> Option<u8>
     ensures { result ≡ port_of ids.now n id.now }
 {
     let rows = at_most(n, 64);
@@ -31,29 +31,29 @@ pub fn port_of(ids: &[u8; 4096], n: usize, id: &[u8]) -> Found
     loop {
         let p = next_row(ids, rows, k, id[k - 1], from);
         if rows <= p {
-            return Found::Nothing;
+            return None;
         }
         k = differing(id_at(ids, p as u8), id);
         if k < 1 {
-            return Found::At(p as u8);
+            return Some(p as u8);
         }
         from = p + 1;
     }
 }
 
 // The same row by row, for an id of any size.
-fn port_among(ids: &[u8; 4096], rows: usize, id: &[u8]) -> Found
+fn port_among(ids: &[u8; 4096], rows: usize, id: &[u8]) -> Option<u8>
     requires { rows ≤ 64 }
     ensures { result ≡ first_row rows (has_id ids.now id.now) }
 {
     let mut p: usize = 0;
     while p < rows {
         if same_octets(id_at(ids, p as u8), id) {
-            return Found::At(p as u8);
+            return Some(p as u8);
         }
         p += 1;
     }
-    Found::Nothing
+    None
 }
 
 // The first row from `from` on with this octet k, or `rows`.

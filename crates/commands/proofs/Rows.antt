@@ -1,4 +1,5 @@
 -- What an Add of the flow of channel k and a Delete come to, case by case, from the tests that lead there. Assumes nothing.
+use Rattle.std.specs.Prelude.{Some}
 use mathlib.Core.Path.{◌≡◌, sym, ◌∙◌}
 use mathlib.Core.Bool.{true, false}
 use mathlib.Core.List.{List}
@@ -7,7 +8,6 @@ use lib.Dec.{eqb}
 use borrow.Author.Tests.{eq-eqb, ne_eqb}
 use Rattle.octets.proofs.Tests.{taken, left}
 use Rattle.flows.specs.declared.Flow.{Flow}
-use Rattle.rows.specs.declared.Found.TheVariants.{At}
 use Rattle.pool.specs.Pool.{is_active, has_flow, began, accounted, ended_flow}
 use Rattle.card.specs.Cards.{Card, with_pool}
 use Rattle.joins.specs.Joins.{admit_number}
@@ -36,20 +36,20 @@ module _ (card : Card) (p k : ℕ) where
     abbrev number : ℕ
     number = admit_number channels card card.head.add_cac p k
 
-    pub add-active : is_active card.pool p k ≡ true → again ≡ add_row channels card p accounting (At k)
+    pub add-active : is_active card.pool p k ≡ true → again ≡ add_row channels card p accounting (Some k)
     unfolding add_row
     add-active h = taken (is_active card.pool p k) again (add_new channels card p k accounting) h
 
     -- n is what admission answers
     module _ (idle : is_active card.pool p k ≡ false) {n : ℕ} (e : n ≡ number) where
-      new : add_new channels card p k accounting ≡ add_row channels card p accounting (At k)
+      new : add_new channels card p k accounting ≡ add_row channels card p accounting (Some k)
       unfolding add_row
       new = left (is_active card.pool p k) again (add_new channels card p k accounting) idle
 
-      pub add-refused : (n ≡ 0 → ⊥) → fails card 0x13 ≡ add_row channels card p accounting (At k)
+      pub add-refused : (n ≡ 0 → ⊥) → fails card 0x13 ≡ add_row channels card p accounting (Some k)
       unfolding add_new
       add-refused h = left (eqb number 0) begins (fails card 0x13) (ne_eqb number 0 (λ q. h (e ∙ q))) ∙ new
 
-      pub add-begins : n ≡ 0 → begins ≡ add_row channels card p accounting (At k)
+      pub add-begins : n ≡ 0 → begins ≡ add_row channels card p accounting (Some k)
       unfolding add_new
       add-begins h = taken (eqb number 0) begins (fails card 0x13) (eq-eqb number 0 (sym e ∙ h)) ∙ new

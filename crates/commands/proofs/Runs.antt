@@ -5,14 +5,13 @@
 --     listed        the channel that was found
 --     failed-keeps, runs_kept       a failed command changes nothing
 -- Assumes nothing.
+use Rattle.std.specs.Prelude.{Option, Some, None}
 use mathlib.Core.Path.{◌≡◌, refl, sym, ap, subst, ◌∙◌}
 use mathlib.Core.Bool.{Bool, true, false, cond}
 use mathlib.Core.List.{List}
 use Prim.Native.Nat.{ℕ}
 use lib.Dec.{eqb}
 use Rattle.flows.specs.declared.Flow.{Flow}
-use Rattle.rows.specs.declared.Found.{Found}
-use Rattle.rows.specs.declared.Found.TheVariants.{At, Nothing}
 use Rattle.channels.specs.Channels.{channel_of}
 use Rattle.ports.specs.declared.Port.{Port}
 use Rattle.pool.specs.declared.Pool.{Pool}
@@ -40,7 +39,7 @@ module _ {card : Card} {terms : Terms} (h : HasTerms card terms.at terms) where
   pub terms_lent : (pool : Pool) → AsLent (with_pool card pool) pool.owner pool.channel pool.charged terms.at terms.port.delegation
   terms_lent pool = record { owner = refl; channel = refl; charged = refl; delegation = ap (λ (x : Port). x.delegation) (record_is h) }
 
-  pub listed : (channels : List ℕ) (f : Flow) {found x : Found} → found ≡ channel_of channels terms.head.channel_count f → found ≡ x → channel_of channels card.head.channel_count f ≡ x
+  pub listed : (channels : List ℕ) (f : Flow) {found x : Option ℕ} → found ≡ channel_of channels terms.head.channel_count f → found ≡ x → channel_of channels card.head.channel_count f ≡ x
   listed channels f e t = ap (λ (n : ℕ). channel_of channels n f) (channels_are h) ∙ sym e ∙ t
 
 -- ---- a failed command changes nothing
@@ -52,10 +51,10 @@ module _ (channels : List ℕ) (card : Card) (p : ℕ) where
   kept_if true y z e f n = absurd (n e)
   kept_if false y z e f n = f n
 
-  kept_add : (accounting : ℕ) (found : Found) → Kept (add_row channels card p accounting found)
+  kept_add : (accounting : ℕ) (found : Option ℕ) → Kept (add_row channels card p accounting found)
   unfolding add_row add_new
-  kept_add accounting Nothing n = refl
-  kept_add accounting (At k) n =
+  kept_add accounting None n = refl
+  kept_add accounting (Some k) n =
       kept_if (is_active card.pool p k) (succeeds (with_pool card (accounted card.pool p k accounting))) (add_new channels card p k accounting) refl
       (kept_if (eqb (admit_number channels card card.head.add_cac p k) 0) (succeeds (with_pool card (began card.pool p k card.head.add_cac accounting))) (fails card 0x13) refl (λ m. refl))
       n

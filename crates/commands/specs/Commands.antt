@@ -1,9 +1,7 @@
 -- One command of a 144 on port p (CARD.md, "Multicast Replication Control (144)"): the card after it, and the result
 -- code, 0 for success. Assumes nothing: these are definitions.
-use Rattle.std.specs.Prelude.{ℕ, ◌≡◌, cond, List, eqb}
+use Rattle.std.specs.Prelude.{ℕ, ◌≡◌, cond, List, eqb, Option, Some, None}
 use Rattle.flows.specs.declared.Flow.{Flow}
-use Rattle.rows.specs.declared.Found.{Found}
-use Rattle.rows.specs.declared.Found.TheVariants.{At, Nothing}
 use Rattle.channels.specs.Channels.{channel_of}
 use Rattle.pool.specs.declared.Pool.{Pool}
 use Rattle.pool.specs.Pool.{Whole, is_active, has_flow, began, ended_flow, ended_all, accounted}
@@ -34,9 +32,9 @@ add_new channels card p k accounting =
     (fails card 0x13)
 
 -- "Add: unlisted 0x66; active already, succeed and set accounting only"
-unfoldable pub add_row : List ℕ → Card → ℕ → ℕ → Found → Ran
-add_row channels card p accounting Nothing = fails card 0x66
-add_row channels card p accounting (At k) =
+unfoldable pub add_row : List ℕ → Card → ℕ → ℕ → Option ℕ → Ran
+add_row channels card p accounting None = fails card 0x66
+add_row channels card p accounting (Some k) =
     cond (is_active card.pool p k) (succeeds (with_pool card (accounted card.pool p k accounting)))
     (add_new channels card p k accounting)
 

@@ -1,7 +1,7 @@
 #![tactic(auto)]
 
 // One command of a Multicast Replication Control message (144), on the pool's four maps, which are lent and changed in place.
-ghost use Rattle.std.specs.Prelude.{◌≡◌, Bool, List, ℕ, ◌<◌, length};
+ghost use Rattle.std.specs.Prelude.{◌≡◌, Bool, List, ℕ, ◌<◌, length, Some};
 ghost use Rattle.fields.specs.Fields.{command_in};
 ghost use Rattle.channels.specs.Channels.{channel_of};
 ghost use Rattle.pool.specs.Pool.{pool_of, Whole};
@@ -11,7 +11,6 @@ ghost use Rattle.commands.specs.Commands.{add_row, delete_flow, carried_out, ran
 use card::Terms;
 use fields::{Command, FLOW};
 use flows::Flow;
-use rows::Found;
 
 // On the port at the terms' place; the answer is the result code: 0 for success.
 pub fn run_command(
@@ -127,8 +126,8 @@ fn add(
 {
     let found = channels::channel_of(channels, terms.head.channel_count, f);
     match found {
-        Found::Nothing => 0x66,
-        Found::At(k) => add_channel(
+        None => 0x66,
+        Some(k) => add_channel(
             channels, terms, k, value, owner, channel, charged, accounting,
         ),
     }
@@ -146,7 +145,7 @@ fn add_channel(
     accounting: &mut [u8; 512],
 ) -> u16
     requires { (terms.at < 256) × Whole (pool_of owner.old channel.old charged.old accounting.old) }
-    ensures { Runs (λ card. add_row channels.now card terms.at value (Found.At k)) terms (pool_of owner.old channel.old charged.old accounting.old) (pool_of owner.new channel.new charged.new accounting.new) result }
+    ensures { Runs (λ card. add_row channels.now card terms.at value (Some k)) terms (pool_of owner.old channel.old charged.old accounting.old) (pool_of owner.new channel.new charged.new accounting.new) result }
 {
     let p = terms.at as u8;
     let x = terms.port;

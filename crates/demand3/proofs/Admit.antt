@@ -5,6 +5,7 @@
 --     flow_ends, all_end                       a flow ends; all flows of the port end
 --     accounted_step                           accounting alone is set
 -- Assumes nothing.
+use Rattle.std.specs.Prelude.{Some}
 use Prim.Native.Nat.{ℕ, ◌+◌, ◌≤◌, ◌<◌}
 use mathlib.Core.Path.{◌≡◌, refl, sym, ap, ap₂, subst, ◌∙◌}
 use mathlib.Core.Bool.{Bool, true, false, cond, false≢true}
@@ -15,7 +16,6 @@ use lib.ListN.{length}
 use lib.Dec.{eqb, leb}
 use borrow.Author.Tests.{leb-true, le-leb}
 use Rattle.flows.specs.declared.Flow.{Flow}
-use Rattle.rows.specs.declared.Found.TheVariants.{At}
 use Rattle.channels.specs.Channels.{rate_at, is_row}
 use Rattle.sums.specs.Sums.{sum_by}
 use Rattle.pool.specs.Pool.{room_for, has_room, free, began, ended, ended_flow, ended_all, accounted}
@@ -50,7 +50,7 @@ module _ (t : Tables) (card : Card) (l : Ledger) (a : Agree t card l) (p : ℕ) 
   room_few r =
       ⊎_elim (λ (h : length (l p).flows < 4). omega arith) (λ (h : (length (l p).flows < 16) × (all_extras l < 256)). h.0) r
 
-  module _ (f : Flow) (k : ℕ) (e : found t f ≡ At k) where
+  module _ (f : Flow) (k : ℕ) (e : found t f ≡ Some k) where
     fits-test : fits t.channels card p k ≡ leb (charges t (l p) + rate_of t f) (l p).delegation
     unfolding fits
     fits-test =

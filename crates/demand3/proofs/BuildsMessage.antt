@@ -5,6 +5,7 @@
 --     first_alone              after the first alone, the second flow is not active
 -- And a 146 for port 1 (`other_asked`).
 -- Assumes nothing.
+use Rattle.std.specs.Prelude.{Some}
 use Prim.Native.Nat.{ℕ, ◌≤◌}
 use mathlib.Core.Path.{◌≡◌, refl, sym, ap, subst, ◌∙◌}
 use mathlib.Core.Logic.{inl, inr}
@@ -24,7 +25,6 @@ use Rattle.flows.specs.Words.{same, zeros}
 use Rattle.flows.specs.Flows.{known_family, width, in_width, is_group, good_group, good_source, good_flow}
 use Rattle.flow_octets.specs.FlowOctets.{type_ok, flow_formed, word_in, flow_named}
 use Rattle.rows.specs.Rows as rows
-use Rattle.rows.specs.declared.Found.TheVariants.{At}
 use Rattle.circuits.specs.Circuits.{id_length, id_at, port_of}
 use Rattle.listing.specs.Listing.{active_at}
 use Rattle.checks.specs.Table.{id_in}
@@ -74,7 +74,7 @@ one-target : (count_of 0x1000 (tlvs_in both_added) ≡ 1) × (circuit_ids (first
 unfolding tlvs_in items_of of_type count_of first_of fold_tlvs fold_up_to fold_by first_tlv
 one-target = (refl, refl)
 
-pub added_port : port_in (small false) both_added ≡ At 0
+pub added_port : port_in (small false) both_added ≡ Some 0
 unfolding port_in port_of rows.first_row rows.first_from id_at id_length same id_in items_of of_type first_of fold_tlvs fold_up_to fold_by first_tlv
 added_port = refl
 
@@ -161,6 +161,6 @@ pub asked-kind : kind_in other_asked ≡ 146
 unfolding kind_in header_in
 asked-kind = refl
 
-pub asked_port : (cac : Bool) → port_in (small cac) other_asked ≡ At 1
+pub asked_port : (cac : Bool) → port_in (small cac) other_asked ≡ Some 1
 unfolding port_in port_of rows.first_row rows.first_from id_at id_length same id_in items_of of_type first_of fold_tlvs fold_up_to fold_by first_tlv
 asked_port cac = refl

@@ -1,5 +1,6 @@
 -- What closes a port's request: after set delegation, port down and a successful 146 no Bandwidth Transfer for the port is taken, until
 -- the host asks for it. Assumes nothing.
+use Rattle.std.specs.Prelude.{Some}
 use Prim.Native.Nat.{ℕ, ◌<◌}
 use mathlib.Core.Path.{◌≡◌, sym, ap, subst, ◌∙◌}
 use mathlib.Core.Bool.{Bool, true, false, cond}
@@ -11,7 +12,6 @@ use borrow.Author.Tests.{eq-eqb}
 use Rattle.header.specs.Header.{header_in}
 use Rattle.items.specs.Items.{items_of, first_of}
 use Rattle.fields.specs.Fields.{request_in}
-use Rattle.rows.specs.declared.Found.TheVariants.{At}
 use Rattle.circuits.specs.Circuits.{id_at}
 use Rattle.ports.specs.declared.Port.{Port}
 use Rattle.ports.specs.Ports.{delegated}
@@ -76,7 +76,7 @@ module _ (t : Tables) (taken : TablesTaken t) (card : Card) (l : Ledger) (a : Ag
       closed_none t taken _ _ b p (λ h. down_closes t taken p h card l a (d h) (port_down p) ((b.at p h).is_up ∙ line_down e))
 
   -- ---- a successful 146
-  module _ (m : List ℕ) (kind : kind_in m ≡ 146) (port : port_in t m ≡ At p) where
+  module _ (m : List ℕ) (kind : kind_in m ≡ 146) (port : port_in t m ≡ Some p) where
     given-closes : (o : Outcome) → Reallocation t.ids t.channels card (header_in m) p o → result_in o.reply ≡ 3 → p < 64 → (port_at o.card p).asking ≡ false
     unfolding transfer_fails transfer_gives
     given-closes o (fails code) r h = absurd (omega (arith, result-amount (header_in m) 147 4 code (id_at t.ids p) (port_at card p).delegation (omega arith)))

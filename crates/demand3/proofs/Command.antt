@@ -3,6 +3,7 @@
 --     carried_out_succeeds  exactly where the ledger says so; `carried_out_code` for what `directive_of` reads
 --     acts_keep, all_keep  commands change a line's flows alone; acts-up, all_up: none brings a port down
 -- Assumes nothing.
+use Rattle.std.specs.Prelude.{Option, Some, None}
 use Prim.Native.Nat.{ℕ, ◌<◌}
 use mathlib.Core.Path.{◌≡◌, refl, sym, ap, subst, ◌∙◌}
 use mathlib.Core.Bool.{Bool, true, false, cond, false≢true}
@@ -15,8 +16,6 @@ use Rattle.flows.specs.declared.Flow.{Flow}
 use Rattle.flows.specs.Flows.{good_flow}
 use Rattle.flow_octets.specs.FlowOctets.{flow_formed, flow_named}
 use Rattle.fields.specs.Fields.{command_in}
-use Rattle.rows.specs.declared.Found.{Found}
-use Rattle.rows.specs.declared.Found.TheVariants.{At, Nothing}
 use Rattle.channels.specs.Channels.{channel_of}
 use Rattle.pool.specs.Pool.{is_active, has_flow, began, ended_flow, accounted}
 use Rattle.card.specs.Cards.{Card, with_pool}
@@ -95,7 +94,7 @@ module _ (t : Tables) (card : Card) (l : Ledger) (a : Agree t card l) (p : ℕ) 
     abbrev started : ℕ → Card
     started k = with_pool card (began card.pool p k card.head.add_cac v)
 
-    module _ (k : ℕ) (e : found t f ≡ At k) where
+    module _ (k : ℕ) (e : found t f ≡ Some k) where
       new_agrees : holds f (l p).flows ≡ false → (add_new t.channels card p k v).code ≡ 0
           → Agree t (add_new t.channels card p k v).card (write l p (begins (l p) f t.add_cac))
       unfolding add_new
@@ -124,11 +123,11 @@ module _ (t : Tables) (card : Card) (l : Ledger) (a : Agree t card l) (p : ℕ) 
     abbrev by_active : ℕ → Bool → Ran
     by_active k b = cond b (succeeds (with_pool card (accounted card.pool p k v))) (add_new t.channels card p k v)
 
-    add-agrees : (r : Found) → found t f ≡ r → (add_row t.channels card p v r).code ≡ 0
+    add-agrees : (r : Option ℕ) → found t f ≡ r → (add_row t.channels card p v r).code ≡ 0
         → Agree t (add_row t.channels card p v r).card (write l p (acts t (l p) (add f v)))
     unfolding add_row acts
-    add-agrees Nothing e z = absurd (omega arith)
-    add-agrees (At k) e z = go (is_active card.pool p k) (holds f (l p).flows) (active_is t card l a p port f k e) refl z
+    add-agrees None e z = absurd (omega arith)
+    add-agrees (Some k) e z = go (is_active card.pool p k) (holds f (l p).flows) (active_is t card l a p port f k e) refl z
       where
         go : (b d : Bool) → b ≡ d → holds f (l p).flows ≡ d → (by_active k b).code ≡ 0 → Agree t (by_active k b).card (write l p (cond d (l p) (begins (l p) f t.add_cac)))
         go true true s h z = agree_as t (λ q. sym (write-back l p q)) (accounted_step t card l a p port k v)
@@ -136,11 +135,11 @@ module _ (t : Tables) (card : Card) (l : Ledger) (a : Agree t card l) (p : ℕ) 
         go true false s h z = absurd (false≢true (sym s))
         go false true s h z = absurd (false≢true s)
 
-    add-succeeds : (r : Found) → found t f ≡ r
+    add-succeeds : (r : Option ℕ) → found t f ≡ r
         → ((add_row t.channels card p v r).code ≡ 0) ↔ ((listed t f ≡ true) × ((holds f (l p).flows ≡ true) ⊎ Starts t t.add_cac l p f))
     unfolding add_row
-    add-succeeds Nothing e = (λ z. absurd (omega arith), λ s. absurd (false≢true (sym (unlisted_at t f e) ∙ s.0)))
-    add-succeeds (At k) e = go (is_active card.pool p k) (active_is t card l a p port f k e)
+    add-succeeds None e = (λ z. absurd (omega arith), λ s. absurd (false≢true (sym (unlisted_at t f e) ∙ s.0)))
+    add-succeeds (Some k) e = go (is_active card.pool p k) (active_is t card l a p port f k e)
       where
         go : (b : Bool) → b ≡ holds f (l p).flows → ((by_active k b).code ≡ 0) ↔ ((listed t f ≡ true) × ((holds f (l p).flows ≡ true) ⊎ Starts t t.add_cac l p f))
         go true h = (λ z. (listed_at t f e, inl (sym h)), λ s. refl)

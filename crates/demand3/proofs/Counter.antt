@@ -3,6 +3,7 @@
 --     call_counter       a call keeps the counter, or takes one number from it
 --     counter_range      from a start that is taken the counter is 1 to 16,777,215 after any list of calls
 -- Assumes nothing.
+use Rattle.std.specs.Prelude.{Option, Some, None}
 use Prim.Native.Nat.{ℕ, ◌+◌, ◌≤◌}
 use mathlib.Core.Path.{◌≡◌, refl, sym, subst, ◌∙◌}
 use mathlib.Core.Bool.{Bool, true, false, cond}
@@ -14,8 +15,6 @@ use borrow.Author.Tests.{leb-true}
 use Rattle.octets.specs.Tests.{every}
 use Rattle.octets.proofs.Tests.{each}
 use Rattle.header.specs.declared.Header.{Header}
-use Rattle.rows.specs.declared.Found.{Found}
-use Rattle.rows.specs.declared.Found.TheVariants.{At, Nothing}
 use Rattle.channels.specs.Channels.{channel_of}
 use Rattle.replies.specs.Replies.{success_of}
 use Rattle.circuits.specs.Circuits.{id_at}
@@ -47,10 +46,10 @@ module _ {A : Type 0} (read : Card → A) (same : (card : Card) (pool : Pool) �
   ran-by card false v w f g = g
 
   module _ (card : Card) where
-    add-keeps : (v : ℕ) (r : Found) → read (add_row channels card p v r).card ≡ read card
+    add-keeps : (v : ℕ) (r : Option ℕ) → read (add_row channels card p v r).card ≡ read card
     unfolding add_row add_new
-    add-keeps v Nothing = refl
-    add-keeps v (At k) =
+    add-keeps v None = refl
+    add-keeps v (Some k) =
         ran-by card (is_active card.pool p k) _ _ (same card _)
         (ran-by card (eqb (admit_number channels card card.head.add_cac p k) 0) _ _ (same card _) refl)
 

@@ -1,5 +1,6 @@
 -- A 146 and a 147 past the table keep agreement: the delegation that they leave is what the ledger reads, and not under what is
 -- committed. Assumes nothing.
+use Rattle.std.specs.Prelude.{Option, Some}
 use Prim.Native.Nat.{ℕ, ◌≤◌, ◌<◌}
 use mathlib.Core.Path.{◌≡◌, refl, sym, ap, subst, ◌∙◌}
 use mathlib.Core.Bool.{Bool, true, false, cond, ◌||◌, false≢true}
@@ -12,8 +13,6 @@ use Rattle.header.specs.declared.Header.{Header}
 use Rattle.header.specs.Header.{header_in}
 use Rattle.fields.specs.declared.Request.{Request}
 use Rattle.replies.specs.Replies.{amount_reply}
-use Rattle.rows.specs.declared.Found.{Found}
-use Rattle.rows.specs.declared.Found.TheVariants.{At}
 use Rattle.circuits.specs.Circuits.{id_at}
 use Rattle.ports.specs.Ports.{closed, delegated, answers, within}
 use Rattle.pool.specs.Pool.{committed_of}
@@ -68,7 +67,7 @@ module _ (t : Tables) (card : Card) (l : Ledger) (a : Agree t card l) (p : ℕ) 
         let reply : List ℕ = amount_reply h 147 result code (id_at t.ids p) amount in
         subst (Agree t next)
         (sym (entry-given t l m reply (kind-amount h 147 result code (id_at t.ids p) amount)
-        ∙ ap (λ (r : Found). write_at l r (λ x. with_delegation x (amount_in reply))) (port_back t h 147 result code p amount taken port)
+        ∙ ap (λ (r : Option ℕ). write_at l r (λ x. with_delegation x (amount_in reply))) (port_back t h 147 result code p amount taken port)
         ∙ ap (λ (n : ℕ). write l p (with_delegation (l p) n)) (amount-back t h 147 result code p amount)))
         b
 
@@ -92,7 +91,7 @@ module _ (t : Tables) (card : Card) (l : Ledger) (a : Agree t card l) (p : ℕ) 
         (λ e. agreed_by t l m (ltb r.required (committed_of t.channels card.pool p)) _ _ (λ f. fails 0) (λ f. gives r.preferred))
 
   -- ---- 147, which is read off m
-  module _ (m : List ℕ) (kind : kind_in m ≡ 147) (answer : is_answer (result_in m) ≡ true) (port : port_in t m ≡ At p) where
+  module _ (m : List ℕ) (kind : kind_in m ≡ 147) (answer : is_answer (result_in m) ≡ true) (port : port_in t m ≡ Some p) where
     silent : kind_in [] ≡ 147 → ⊥
     silent e = omega (arith, kind-none)
 
@@ -121,7 +120,7 @@ module _ (t : Tables) (card : Card) (l : Ledger) (a : Agree t card l) (p : ℕ) 
         let least = leb-true (port_at card p).required (amount_in m) (each (leb (port_at card p).required (amount_in m) ∷ leb (amount_in m) (port_at card p).preferred ∷ []) w).0 in
         let more = (a.at p below).asks-more asking in
         subst (Agree t (with_port card p (delegated (port_at card p) (amount_in m))))
-        (sym (entry-taken t l m [] silent kind (success n) ∙ ap (λ (r : Found). write_at l r (λ x. with_delegation x (amount_in m))) port))
+        (sym (entry-taken t l m [] silent kind (success n) ∙ ap (λ (r : Option ℕ). write_at l r (λ x. with_delegation x (amount_in m))) port))
         (delegated-agrees (amount_in m) (omega (arith, (a.at p below).bounded, (a.at p below).delegation)))
 
     pub transferred_agreed : Agreed t l m (transferred card (header_in m) p (amount_in m))

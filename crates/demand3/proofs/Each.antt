@@ -5,6 +5,7 @@
 --     entered-delegation   and every delegation, unless it is set delegation, a 146, or a 147 with Result 3
 --     entered-none         and the line of a number that is no port's
 -- Assumes nothing.
+use Rattle.std.specs.Prelude.{Some}
 use Prim.Native.Nat.{ℕ, ◌≤◌, ◌<◌}
 use mathlib.Core.Path.{◌≡◌, refl, ap, subst}
 use mathlib.Core.Bool.{Bool, true, false, cond}
@@ -12,7 +13,6 @@ use mathlib.Core.List.{List}
 use native.Mathlib.Omega.{arith}
 use lib.Dec.{eqb}
 use borrow.Author.Tests.{eqb-true}
-use Rattle.rows.specs.declared.Found.TheVariants.{At}
 use Rattle.card.specs.Cards.{Card}
 use Rattle.demand3.specs.Calls.{Tables, Call, ours, outcome_of, seen, by_call}
 use Rattle.demand3.specs.Calls.Call.{port_up, port_down, set_delegation, join, leave, ask, message}
@@ -48,21 +48,21 @@ module _ (t : Tables) where
       record {
         way = λ c. up_way t c _ q;
         step = λ k c l a. up_step t c l a q;
-        frame = λ k c l a p. line_frame t l _ _ p q (ap At) _ refl refl;
+        frame = λ k c l a p. line_frame t l _ _ p q (ap Some) _ refl refl;
         known = λ c e p n. about c (port_up q) (up_known t c e q) (at_eq n);
       }
   each_call (port_down q) =
       record {
         way = λ c. down_way t c _ q;
         step = λ k c l a. down_step t c l a q;
-        frame = λ k c l a p. line_frame t l _ _ p q (ap At) _ refl refl;
+        frame = λ k c l a p. line_frame t l _ _ p q (ap Some) _ refl refl;
         known = λ c e p n. about c (port_down q) (down_known t c e q) (at_eq n);
       }
   each_call (set_delegation q amount) =
       record {
         way = λ c. delegation_way t c _ q amount;
         step = λ k c l a. delegation_step t c l a q amount;
-        frame = λ k c l a p. set-frame t l _ _ p q (ap At) _ refl amount refl;
+        frame = λ k c l a p. set-frame t l _ _ p q (ap Some) _ refl amount refl;
         known = λ c e p n. about c (set_delegation q amount) (delegation_known t c e q amount) (at_eq n);
       }
   each_call (join q f space) =
@@ -76,7 +76,7 @@ module _ (t : Tables) where
       record {
         way = λ c. leave_way t c _ q f;
         step = λ k c l a. leave_step t c l a q f;
-        frame = λ k c l a p. line_frame t l _ _ p q (ap At) _ refl refl;
+        frame = λ k c l a p. line_frame t l _ _ p q (ap Some) _ refl refl;
         known = λ c e p n. about c (leave q f) (leave_known t c e q f) (at_eq n);
       }
   each_call (ask q m n space) =

@@ -1,4 +1,5 @@
 -- What the ledger enters for a message that was answered by a reply, case by case. Assumes nothing.
+use Rattle.std.specs.Prelude.{Option, Some, None}
 use Prim.Native.Nat.{ℕ}
 use mathlib.Core.Path.{◌≡◌, refl, sym, ap, subst}
 use mathlib.Core.Bool.{Bool, true, false, ◌&&◌, ◌||◌}
@@ -11,8 +12,6 @@ use Rattle.octets.proofs.Tests.{both}
 use Rattle.header.specs.declared.Header.{Header}
 use Rattle.header.specs.Header.{header_in}
 use Rattle.items.specs.Items.{count_of}
-use Rattle.rows.specs.declared.Found.{Found}
-use Rattle.rows.specs.declared.Found.TheVariants.{At, Nothing}
 use Rattle.checks.specs.Table.{enclosed_of, refused_of}
 use Rattle.control.specs.Control.{commands_in}
 use Rattle.card.specs.Cards.{Card}
@@ -64,10 +63,10 @@ acted-refused h s code cs k =
 
 module _ (t : Tables) (card : Card) (l : Ledger) (a : Agree t card l) where
   -- a line rewritten to itself
-  unchanged : (r : Found) (change : Line → Line) → ((x : Line) → change x ≡ x) → Agree t card (write_at l r change)
+  unchanged : (r : Option ℕ) (change : Line → Line) → ((x : Line) → change x ≡ x) → Agree t card (write_at l r change)
   unfolding write_at
-  unchanged Nothing change e = a
-  unchanged (At p) change e = subst (λ (x : Line). Agree t card (write l p x)) (sym (e (l p))) (agree_as t (λ q. sym (write-back l p q)) a)
+  unchanged None change e = a
+  unchanged (Some p) change e = subst (λ (x : Line). Agree t card (write l p x)) (sym (e (l p))) (agree_as t (λ q. sym (write-back l p q)) a)
 
   module _ (m : List ℕ) (code : ℕ) (other : Other (kind_in m) 147) where
     abbrev reply : List ℕ

@@ -4,6 +4,7 @@
 --     reads_up, reads-delegation, reads-active, reads-committed      what a host reads
 --     reads_once, reads-listed, reads_bounded           no flow twice, none that is not listed; committed within the delegation
 -- Assumes nothing.
+use Rattle.std.specs.Prelude.{Option, Some, None}
 use Prim.Native.Nat.{ℕ, ◌-◌, ◌≤◌, ◌<◌}
 use mathlib.Core.Path.{◌≡◌, refl, sym, ap, ◌∙◌}
 use mathlib.Core.Bool.{Bool, true, false, cond, false≢true}
@@ -14,8 +15,6 @@ use lib.Dec.{eqb, ltb}
 use borrow.Author.Tests.{lt-ltb}
 use Rattle.octets.proofs.Tests.{every-by}
 use Rattle.flows.specs.declared.Flow.{Flow}
-use Rattle.rows.specs.declared.Found.{Found}
-use Rattle.rows.specs.declared.Found.TheVariants.{At, Nothing}
 use Rattle.channels.specs.Channels.{is_row, channel_of}
 use Rattle.sums.proofs.Sums.{sum_to_ext}
 use Rattle.pool.specs.Pool.{is_active, has_flow, active_count, extras_of, committed_of}
@@ -32,7 +31,7 @@ use Rattle.demand3.proofs.Agree.{Agree, TablesTaken}
 module _ (t : Tables) (card : Card) (l : Ledger) (a : Agree t card l) where
   -- ---- figures that calls decide by
   module _ (p : ℕ) (port : p < 64) where
-    pub active_is : (f : Flow) (k : ℕ) → found t f ≡ At k → is_active card.pool p k ≡ holds f (l p).flows
+    pub active_is : (f : Flow) (k : ℕ) → found t f ≡ Some k → is_active card.pool p k ≡ holds f (l p).flows
     active_is f k e = ap (ltb 0) ((a.at p port).flows (row_weight k)) ∙ holds-sum t f (λ j. eqb j k) (row_same t f k e) (l p).flows (a.at p port).rows
 
     pub has_is : (f : Flow) → has_flow t.channels card.pool p f ≡ holds f (l p).flows
@@ -51,9 +50,9 @@ module _ (t : Tables) (card : Card) (l : Ledger) (a : Agree t card l) where
     unfolding active_row
     active-row f = ap (λ (n : ℕ). active_row card.pool p (channel_of t.channels n f)) a.channels ∙ go (found t f) refl
       where
-        go : (r : Found) → found t f ≡ r → active_row card.pool p (found t f) ≡ holds f (l p).flows
-        go (At k) e = ap (active_row card.pool p) e ∙ active_is f k e
-        go Nothing e = ap (active_row card.pool p) e ∙ sym (unlisted_held t f (unlisted_at t f e) (l p).flows (a.at p port).rows)
+        go : (r : Option ℕ) → found t f ≡ r → active_row card.pool p (found t f) ≡ holds f (l p).flows
+        go (Some k) e = ap (active_row card.pool p) e ∙ active_is f k e
+        go None e = ap (active_row card.pool p) e ∙ sym (unlisted_held t f (unlisted_at t f e) (l p).flows (a.at p port).rows)
 
   pub extras_is : extras_of card.pool ≡ all_extras l
   unfolding all_extras

@@ -2,6 +2,7 @@
 --     kept_frame, line_frame, set-frame      where it is the ledger itself, a line written, a delegation set
 --     message_frame                          of a message
 -- Assumes nothing.
+use Rattle.std.specs.Prelude.{Option, Some, None}
 use Prim.Native.Nat.{ℕ}
 use mathlib.Core.Path.{◌≡◌, refl, sym, ap, subst, ◌∙◌}
 use mathlib.Core.Bool.{Bool, true, false, cond, ◌&&◌, ◌||◌}
@@ -11,8 +12,6 @@ use lib.ListN.{drop}
 use lib.Dec.{eqb}
 use borrow.Author.Tests.{eqb-true}
 use Rattle.octets.proofs.Tests.{both}
-use Rattle.rows.specs.declared.Found.{Found}
-use Rattle.rows.specs.declared.Found.TheVariants.{At, Nothing}
 use Rattle.control.specs.Control.{commands_in}
 use Rattle.card.specs.Cards.{Card}
 use Rattle.demand3.specs.Calls.{Tables, Call, outcome_of, by_call}
@@ -27,10 +26,10 @@ use Rattle.demand3.proofs.Transfers.{reply_147}
 -- ---- a line written
 module _ (l : Ledger) (p : ℕ) where
   -- another's line
-  at_other : (r : Found) (change : Line → Line) → (r ≡ At p → ⊥) → write_at l r change p ≡ l p
+  at_other : (r : Option ℕ) (change : Line → Line) → (r ≡ Some p → ⊥) → write_at l r change p ≡ l p
   unfolding write_at
-  at_other Nothing change n = refl
-  at_other (At q) change n = write_other l q (change (l q)) p (λ e. n (ap At (sym e)))
+  at_other None change n = refl
+  at_other (Some q) change n = write_other l q (change (l q)) p (λ e. n (ap Some (sym e)))
 
   -- a line with the delegation that it had
   delegation-written : (q : ℕ) (x : Line) → x.delegation ≡ (l q).delegation → (write l q x p).delegation ≡ (l p).delegation
@@ -39,10 +38,10 @@ module _ (l : Ledger) (p : ℕ) where
       (λ (s : p ≡ q). subst (λ (i : ℕ). (write l q x i).delegation ≡ (l i).delegation) (sym s) (ap (λ (y : Line). y.delegation) (write_same l q x) ∙ e))
       (λ n. ap (λ (y : Line). y.delegation) (write_other l q x p n))
 
-  at-delegation : (r : Found) (change : Line → Line) → ((x : Line) → (change x).delegation ≡ x.delegation) → (write_at l r change p).delegation ≡ (l p).delegation
+  at-delegation : (r : Option ℕ) (change : Line → Line) → ((x : Line) → (change x).delegation ≡ x.delegation) → (write_at l r change p).delegation ≡ (l p).delegation
   unfolding write_at
-  at-delegation Nothing change e = refl
-  at-delegation (At q) change e = delegation-written q (change (l q)) (e (l q))
+  at-delegation None change e = refl
+  at-delegation (Some q) change e = delegation-written q (change (l q)) (e (l q))
 
 -- x is no set delegation for port p, and no message that may set a delegation
 abbrev pub NotSet : Call → ℕ → Type 0
@@ -94,7 +93,7 @@ module _ (t : Tables) (taken : TablesTaken t) (p : ℕ) where
       abbrev sets : Bool
       sets = eqb (kind_in m) 147 && eqb (result_in m) 3
 
-      message_other : (port_in t m ≡ At p → ⊥) → message_entry t l m reply p ≡ l p
+      message_other : (port_in t m ≡ Some p → ⊥) → message_entry t l m reply p ≡ l p
       unfolding message_entry
       message_other n = go (eqb (kind_in reply) 147) refl sets (eqb (kind_in m) 144 && (eqb (result_in m) 1 || eqb (result_in m) 2))
         where

@@ -3,6 +3,7 @@
 --     on_port            a port of the card is one of 64
 --     up_step, down_step, delegation_step, leave_step, ask_step
 -- Assumes nothing.
+use Rattle.std.specs.Prelude.{Option, Some, None}
 use Prim.Native.Nat.{ℕ, ◌≤◌, ◌<◌}
 use mathlib.Core.Path.{◌≡◌, refl, sym, ap, ap₂, subst, ◌∙◌}
 use mathlib.Core.Bool.{Bool, true, false, cond, not, false≢true}
@@ -12,8 +13,6 @@ use borrow.Author.Tests.{ltb-true, leb-true}
 use Rattle.octets.proofs.Tests.{each}
 use Rattle.flows.specs.declared.Flow.{Flow}
 use Rattle.flows.specs.Flows.{good_flow}
-use Rattle.rows.specs.declared.Found.{Found}
-use Rattle.rows.specs.declared.Found.TheVariants.{At, Nothing}
 use Rattle.channels.specs.Channels.{channel_of}
 use Rattle.ports.specs.declared.Port.{Port}
 use Rattle.ports.specs.Ports.{brought_up, taken_down, delegated, asked, may_ask}

@@ -3,6 +3,7 @@
 --     join-white          a white-listed join of a flow that is wanted comes to admission
 --     join-starts         it starts exactly where the ledger says so: demand 3's clause for joins
 -- Assumes nothing.
+use Rattle.std.specs.Prelude.{Option, Some, None}
 use Prim.Native.Nat.{ℕ, ◌≤◌, ◌<◌}
 use mathlib.Core.Path.{◌≡◌, refl, sym, ap, subst, ◌∙◌}
 use mathlib.Core.Bool.{Bool, true, false, cond, ◌||◌}
@@ -12,12 +13,10 @@ use borrow.Author.Tests.{eqb-true, eq-eqb, le-ltb}
 use Rattle.flows.specs.declared.Flow.{Flow}
 use Rattle.flows.specs.Flows.{good_flow}
 use Rattle.flows.proofs.Same.{same-flow_refl}
-use Rattle.rows.specs.declared.Found.{Found}
-use Rattle.rows.specs.declared.Found.TheVariants.{At, Nothing}
 use Rattle.channels.specs.Channels.{channel_of}
 use Rattle.channels.proofs.Channels.{channel-found}
 use Rattle.lists.specs.declared.Decision.{Decision}
-use Rattle.lists.specs.declared.Decision.TheVariants.{Black, Grey, White, None}
+use Rattle.lists.specs.declared.Decision.TheVariants.{Black, Grey, White, None as Unlisted}
 use Rattle.lists.specs.Lists.{list_decision}
 use Rattle.ports.specs.Transactions.{taken_from}
 use Rattle.pool.specs.Pool.{is_active, began}
@@ -48,7 +47,7 @@ module _ (t : Tables) (card : Card) (l : Ledger) (a : Agree t card l) (p : ℕ) 
   started k = becomes (with_pool card (began card.pool p k card.head.white_cac 0))
 
   -- ---- card and ledger agree after it
-  module _ (port : p < 64) (up : (port_at card p).up ≡ true) (k : ℕ) (e : found t f ≡ At k) (idle : is_active card.pool p k ≡ false) where
+  module _ (port : p < 64) (up : (port_at card p).up ≡ true) (k : ℕ) (e : found t f ≡ Some k) (idle : is_active card.pool p k ≡ false) where
     white_step : Goes t l begun (white_of t.channels card p k)
     unfolding white_of
     white_step =
@@ -61,12 +60,12 @@ module _ (t : Tables) (card : Card) (l : Ledger) (a : Agree t card l) (p : ℕ) 
     list_step White = white_step
     list_step Grey = counter_step t card l a (taken_from card.head.counter).next
     list_step Black = a
-    list_step None = a
+    list_step Unlisted = a
 
-  row_step : p < 64 → (port_at card p).up ≡ true → (r : Found) → found t f ≡ r → Goes t l begun (join_row t.ids t.channels t.entries card p f r)
+  row_step : p < 64 → (port_at card p).up ≡ true → (r : Option ℕ) → found t f ≡ r → Goes t l begun (join_row t.ids t.channels t.entries card p f r)
   unfolding join_row
-  row_step port up Nothing e = a
-  row_step port up (At k) e =
+  row_step port up None e = a
+  row_step port up (Some k) e =
       let d = list_decision t.entries card.head.entry_count f in
       goes_by t l begun (is_active card.pool p k) (keeps card 1) (by_list t.ids t.channels card p f k d) (λ h. a) (λ h. list_step port up k e h d)
 
@@ -92,15 +91,15 @@ module _ (t : Tables) (card : Card) (l : Ledger) (a : Agree t card l) (p : ℕ) 
       port : p < 64
       port = below t card l a taken p w.port
 
-      is_good : (k : ℕ) → found t f ≡ At k → good_flow f ≡ true
+      is_good : (k : ℕ) → found t f ≡ Some k → good_flow f ≡ true
       is_good k e =
           let g = channel-found t.channels t.channel_count f e in
           ap good_flow (sym g.is) ∙ (taken.channel k g.below).good
 
-      pub join-white : (k : ℕ) → found t f ≡ At k → join_of t.ids t.channels t.entries card p f space ≡ white_of t.channels card p k
+      pub join-white : (k : ℕ) → found t f ≡ Some k → join_of t.ids t.channels t.entries card p f space ≡ white_of t.channels card p k
       unfolding join_of join_row by_list
       join-white k e =
-          let found_here : channel_of t.channels card.head.channel_count f ≡ At k = ap (λ (n : ℕ). channel_of t.channels n f) a.channels ∙ e in
+          let found_here : channel_of t.channels card.head.channel_count f ≡ Some k = ap (λ (n : ℕ). channel_of t.channels n f) a.channels ∙ e in
           let decided : list_decision t.entries card.head.entry_count f ≡ White = ap (λ (n : ℕ). list_decision t.entries n f) a.entries ∙ white in
           rw (le-ltb space 4608 large, has_port_lem t card l a taken p w.port, (a.at p port).is_up ∙ w.is_up, is_good k e, found_here, active_is t card l a p port f k e ∙ w.idle, decided)
 

@@ -1,4 +1,5 @@
 -- What does not hang on the list entries: every call but a join, and a join that is refused before it looks at them. Assumes nothing.
+use Rattle.std.specs.Prelude.{Option, Some, None}
 use Prim.Native.Nat.{ℕ, ◌≤◌, ◌<◌}
 use mathlib.Core.Path.{◌≡◌, refl, ap}
 use mathlib.Core.Logic.{◌⊎◌, ⊎_elim}
@@ -8,11 +9,9 @@ use lib.Dec.{eqb, ltb}
 use native.Mathlib.Omega.{arith}
 use Rattle.flows.specs.declared.Flow.{Flow}
 use Rattle.flows.specs.Flows.{good_flow}
-use Rattle.rows.specs.declared.Found.{Found}
-use Rattle.rows.specs.declared.Found.TheVariants.{At, Nothing}
 use Rattle.channels.specs.Channels.{channel_of}
 use Rattle.lists.specs.declared.Decision.{Decision}
-use Rattle.lists.specs.declared.Decision.TheVariants.{Black, Grey, White, None}
+use Rattle.lists.specs.declared.Decision.TheVariants.{Black, Grey, White, None as Unlisted}
 use Rattle.lists.specs.Lists.{list_decision}
 use Rattle.pool.specs.Pool.{is_active, has_room}
 use Rattle.card.specs.Cards.{Card, has_port, port_at}
@@ -51,7 +50,7 @@ module _ (ids channels : List ℕ) (card : Card) (p : ℕ) (f : Flow) (k : ℕ) 
       (admit_late card.head.white_cac)
   late Grey = not-before 2 (λ e. omega arith) (omega arith)
   late Black = not-before 3 (λ e. omega arith) (omega arith)
-  late None = not-before 3 (λ e. omega arith) (omega arith)
+  late Unlisted = not-before 3 (λ e. omega arith) (omega arith)
 
 -- ---- a join, check by check
 module _ (D : Type 0) where
@@ -66,10 +65,10 @@ module _ (ids channels entries others : List ℕ) (card : Card) (p : ℕ) (f : F
   abbrev Decided : Type 0
   Decided = list_decision others card.head.entry_count f ≡ list_decision entries card.head.entry_count f
 
-  row_last : (r : Found) → Reason Decided (join_row ids channels entries card p f r) → join_row ids channels others card p f r ≡ join_row ids channels entries card p f r
+  row_last : (r : Option ℕ) → Reason Decided (join_row ids channels entries card p f r) → join_row ids channels others card p f r ≡ join_row ids channels entries card p f r
   unfolding join_row
-  row_last Nothing h = refl
-  row_last (At k) h =
+  row_last None h = refl
+  row_last (Some k) h =
       by_reason Decided (is_active card.pool p k) _ _ _ _ (λ q. refl)
       (⊎_elim (λ b. absurd (late ids channels card p f k (list_decision entries card.head.entry_count f) b)) (λ d. ap (by_list ids channels card p f k) d)) h
 

@@ -1,4 +1,5 @@
 -- A card that agrees with the ledger still does after any message. Assumes nothing.
+use Rattle.std.specs.Prelude.{Option, Some}
 use Prim.Native.Nat.{ℕ, ◌<◌}
 use mathlib.Core.Path.{◌≡◌, sym, ap, subst, ◌∙◌}
 use mathlib.Core.Bool.{Bool, true, cond, ◌||◌}
@@ -11,8 +12,6 @@ use Rattle.header.specs.declared.Header.{Header}
 use Rattle.header.specs.Header.{header_in}
 use Rattle.items.specs.Items.{items_of, first_of}
 use Rattle.fields.specs.Fields.{request_in}
-use Rattle.rows.specs.declared.Found.{Found}
-use Rattle.rows.specs.declared.Found.TheVariants.{At}
 use Rattle.circuits.specs.Circuits.{id_at, port_of}
 use Rattle.card.specs.Cards.{Card}
 use Rattle.card.specs.Outcome.{Outcome}
@@ -36,7 +35,7 @@ use Rattle.demand3.proofs.Delegations.{ledger_after_answer, Agreed, reallocated_
 module _ (t : Tables) (card : Card) (l : Ledger) (a : Agree t card l) (m : List ℕ) where
   -- ---- what a message that passes the table has, in the ledger's terms
   module _ {p : ℕ} (s : TablePassed t.ids card (header_in m) (drop 16 m) p) where
-    pub names_port : port_in t m ≡ At p
+    pub names_port : port_in t m ≡ Some p
     unfolding port_in
     names_port = ap (λ (n : ℕ). port_of t.ids n (id_in (drop 16 m))) (sym a.ports) ∙ s.found
 
@@ -73,13 +72,13 @@ module _ (t : Tables) (card : Card) (l : Ledger) (a : Agree t card l) (m : List 
     controlled_agrees =
         commands_agree t p below l (header_in m) (id_at t.ids p) card (l p) 1 commands (agree_as t (λ q. sym (write-back l p q)) a) up
 
-    controlled_agreed : kind_in m ≡ 144 → (eqb (result_in m) 1 || eqb (result_in m) 2) ≡ true → port_in t m ≡ At p → Agreed t l m answer
+    controlled_agreed : kind_in m ≡ 144 → (eqb (result_in m) 1 || eqb (result_in m) 2) ≡ true → port_in t m ≡ Some p → Agreed t l m answer
     unfolding ledger_after_answer write_at
     controlled_agreed k r port =
         subst (Agree t answer.card)
         (sym (ap (λ (n : ℕ). cond (eqb n 0) (message_entry t l m answer.reply) l) controlled_tells.number
         ∙ entry-ordered t l m answer.reply (λ e. omega (arith, controlled_tells.generic)) k r
-        ∙ ap (λ (f : Found). write_at l f (λ x. acts_all t x (acted_in answer.reply commands))) port
+        ∙ ap (λ (f : Option ℕ). write_at l f (λ x. acts_all t x (acted_in answer.reply commands))) port
         ∙ ap (λ (cs : List (List ℕ)). write l p (acts_all t (l p) cs)) controlled-acts))
         controlled_agrees
 

@@ -1,5 +1,6 @@
 -- What the ledger reads of a reply: its type and Result, what a refusal encloses, and the port and amount of a Bandwidth Transfer.
 -- Assumes nothing.
+use Rattle.std.specs.Prelude.{Some}
 use Prim.Native.Nat.{ℕ, ◌<◌}
 use mathlib.Core.Path.{◌≡◌, refl, sym, ap, ◌∙◌}
 use mathlib.Core.Bool.{Bool, true, false, cond, ◌||◌}
@@ -14,7 +15,6 @@ use Rattle.items.proofs.Types.{count_miss}
 use Rattle.fields.specs.Fields.{circuit_id, allocation_in, sequence_in, status_tlvs}
 use Rattle.writers.specs.Tlvs.{tlv_of, bare_of, target_of, status_of, sequence_of, allocation_of}
 use Rattle.replies.specs.Replies.{reply_header, refusal_of, success_of, amount_reply}
-use Rattle.rows.specs.declared.Found.TheVariants.{At}
 use Rattle.circuits.specs.Circuits.{id_at, port_of}
 use Rattle.tables.proofs.Tables.{own_port}
 use Rattle.rules.specs.declared.Rule.{Rule}
@@ -181,7 +181,7 @@ refused_unnumbered h s code e =
 
 -- ---- the port of a message that begins with a Target
 module _ (t : Tables) (h : Header) (p : ℕ) (rest : List ℕ) where
-  pub target_port : TablesTaken t → p < t.ports → port_in t (message_of h (target_of (id_at t.ids p) ++ rest)) ≡ At p
+  pub target_port : TablesTaken t → p < t.ports → port_in t (message_of h (target_of (id_at t.ids p) ++ rest)) ≡ Some p
   unfolding port_in id_in first_of of_type tlvs_in
   target_port k l =
       let a = read_back.target (id_at t.ids p) in
@@ -210,6 +210,6 @@ module _ (t : Tables) (h : Header) (kind result code p amount : ℕ) where
   unfolding amount_in first_of of_type
   amount-back = ap (λ (is : List Item). allocation_in (first_of 0x0015 is)) tlvs-amount ∙ (read_back.allocation amount).fields.1
 
-  pub port_back : TablesTaken t → p < t.ports → port_in t reply ≡ At p
+  pub port_back : TablesTaken t → p < t.ports → port_in t reply ≡ Some p
   unfolding amount_reply
   port_back = target_port t (reply_header h kind result code) p (allocation_of amount)

@@ -6,6 +6,7 @@
 --     unlisted_held                          a flow that is not listed is not held
 --     without-sum, without-holds, without_listed, without_once, without_few, without-charges      those held but one flow
 -- Assumes nothing.
+use Rattle.std.specs.Prelude.{Option, Some, None, is_none}
 use Prim.Native.Nat.{ℕ, ◌+◌, ◌≤◌}
 use mathlib.Core.Path.{◌≡◌, refl, sym, ap, ap₂, ◌∙◌}
 use mathlib.Core.Bool.{Bool, true, false, cond, not, ◌||◌, false≢true}
@@ -19,9 +20,6 @@ use Rattle.octets.proofs.Tests.{same_by}
 use Rattle.flows.specs.declared.Flow.{Flow}
 use Rattle.flows.specs.Flows.{same_flow}
 use Rattle.flows.proofs.Same.{same-flow_eq, same-flow_refl}
-use Rattle.rows.specs.declared.Found.{Found}
-use Rattle.rows.specs.declared.Found.TheVariants.{At, Nothing}
-use Rattle.rows.specs.Rows.{is_nothing}
 use Rattle.channels.specs.Channels.{channel_of, channel_at, rate_at, is_row}
 use Rattle.channels.proofs.Channels.{channel-found}
 use Rattle.sums.specs.Sums.{sum_by}
@@ -31,9 +29,9 @@ use Rattle.demand3.specs.Reads.{listed, rate_by, rate_of}
 use Rattle.demand3.specs.Claim.{charges, Once}
 
 -- the row of a flow's channel; 256, which is no row, where it is not listed
-unfoldable pub row_by : Found → ℕ
-row_by (At k) = k
-row_by Nothing = 256
+unfoldable pub row_by : Option ℕ → ℕ
+row_by (Some k) = k
+row_by None = 256
 
 unfoldable pub row_of : Tables → Flow → ℕ
 row_of t f = row_by (channel_of t.channels t.channel_count f)
@@ -67,34 +65,34 @@ besides sel w j c = cond (sel j) 0 (w j c)
 
 module _ (t : Tables) where
   -- ---- one flow
-  abbrev pub found : Flow → Found
+  abbrev pub found : Flow → Option ℕ
   found f = channel_of t.channels t.channel_count f
 
   module _ (f : Flow) where
-    pub listed_by : {C : Type 0} → listed t f ≡ true → ((k : ℕ) → found f ≡ At k → C) → C
+    pub listed_by : {C : Type 0} → listed t f ≡ true → ((k : ℕ) → found f ≡ Some k → C) → C
     unfolding listed
     listed_by {C} h go = at (found f) refl h
       where
-        at : (r : Found) → found f ≡ r → not (is_nothing r) ≡ true → C
-        at (At k) e h = go k e
-        at Nothing e h = absurd (false≢true h)
+        at : (r : Option ℕ) → found f ≡ r → not (is_none r) ≡ true → C
+        at (Some k) e h = go k e
+        at None e h = absurd (false≢true h)
 
-    pub listed_at : {k : ℕ} → found f ≡ At k → listed t f ≡ true
+    pub listed_at : {k : ℕ} → found f ≡ Some k → listed t f ≡ true
     unfolding listed
-    listed_at e = ap (λ (r : Found). not (is_nothing r)) e
+    listed_at e = ap (λ (r : Option ℕ). not (is_none r)) e
 
-    pub unlisted_at : found f ≡ Nothing → listed t f ≡ false
+    pub unlisted_at : found f ≡ None → listed t f ≡ false
     unfolding listed
-    unlisted_at e = ap (λ (r : Found). not (is_nothing r)) e
+    unlisted_at e = ap (λ (r : Option ℕ). not (is_none r)) e
 
-    pub row_is : {k : ℕ} → found f ≡ At k → row_of t f ≡ k
+    pub row_is : {k : ℕ} → found f ≡ Some k → row_of t f ≡ k
     unfolding row_of row_by
     row_is e = ap row_by e
 
     pub row-flow : listed t f ≡ true → channel_at t.channels (row_of t f) ≡ f
     row-flow h = listed_by h (λ k e. ap (channel_at t.channels) (row_is e) ∙ (channel-found t.channels t.channel_count f e).is)
 
-    pub rate_is : {k : ℕ} → found f ≡ At k → rate_of t f ≡ rate_at t.channels k
+    pub rate_is : {k : ℕ} → found f ≡ Some k → rate_of t f ≡ rate_at t.channels k
     unfolding rate_of rate_by
     rate_is e = ap (rate_by t) e
 
@@ -109,7 +107,7 @@ module _ (t : Tables) where
     pub row_named : Tells f (is_row t.channels f)
     row_named g h = ap (λ (x : Flow). same_flow x f) (row-flow g h)
 
-    pub row_same : (k : ℕ) → found f ≡ At k → Tells f (λ j. eqb j k)
+    pub row_same : (k : ℕ) → found f ≡ Some k → Tells f (λ j. eqb j k)
     unfolding row_of row_by
     row_same k e g h = same_by (eqb (row_of t g) k) (same_flow g f) there back
       where

@@ -3,6 +3,7 @@
 --     ups_exactly               port up is taken on every port
 --     sets_exactly              set delegation exactly where the amount is not under what is committed
 -- Assumes nothing.
+use Rattle.std.specs.Prelude.{Some}
 use Prim.Native.Nat.{ℕ, ◌≤◌, ◌<◌}
 use mathlib.Core.Path.{◌≡◌, refl, ap, subst}
 use mathlib.Core.Logic.{◌↔◌}
@@ -14,7 +15,6 @@ use lib.Dec.{leb, ltb}
 use borrow.Author.Tests.{leb-true, le-leb, ltb-true}
 use Rattle.octets.proofs.Tests.{each}
 use Rattle.flows.specs.declared.Flow.{Flow}
-use Rattle.rows.specs.declared.Found.TheVariants.{At}
 use Rattle.checks.specs.Table.{id_in}
 use Rattle.ports.specs.Ports.{delegated}
 use Rattle.pool.specs.Pool.{committed_of}
@@ -81,7 +81,7 @@ module _ (t : Tables) (card : Card) (ports : card.head.port_count ≡ t.ports) w
     ask_known required preferred space z = at_port p _ (past_buffer card (ltb space 4608) _ z)
 
 -- a message's Target names no number but a port's
-pub named_known : (t : Tables) (m : List ℕ) (p : ℕ) → port_in t m ≡ At p → p < t.ports
+pub named_known : (t : Tables) (m : List ℕ) (p : ℕ) → port_in t m ≡ Some p → p < t.ports
 unfolding port_in
 named_known t m p e = (port_below t.ids t.ports (id_in (drop 16 m)) e).0
 

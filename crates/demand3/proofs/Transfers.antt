@@ -3,6 +3,7 @@
 --     Transfers, reply_147           a 147 in reply answers a 146, and names the port that the 146 names
 --     takes_none                     a 147 is taken only where its port has an open request
 -- Assumes nothing.
+use Rattle.std.specs.Prelude.{Some}
 use Prim.Native.Nat.{ℕ, ◌<◌}
 use mathlib.Core.Path.{◌≡◌, refl, sym, ap, ◌∙◌}
 use mathlib.Core.Bool.{Bool, true, false, cond, false≢true}
@@ -16,7 +17,6 @@ use Rattle.header.specs.Header.{header_in}
 use Rattle.items.specs.Items.{items_of, first_of}
 use Rattle.fields.specs.declared.Request.{Request}
 use Rattle.fields.specs.Fields.{allocation_in, request_in}
-use Rattle.rows.specs.declared.Found.TheVariants.{At}
 use Rattle.circuits.specs.Circuits.{id_at, port_of}
 use Rattle.ports.specs.Ports.{closed, delegated, answers, within}
 use Rattle.pool.specs.Pool.{committed_of}
@@ -90,7 +90,7 @@ pub record Transfers (t : Tables) (m reply : List ℕ) : Type 0 where
 
 module _ (t : Tables) (card : Card) (l : Ledger) (a : Agree t card l) (taken : TablesTaken t) (m : List ℕ) where
   -- it names the port on which the 146 was carried out
-  transfer_port : (p : ℕ) → p < t.ports → (o : Outcome) → Reallocation t.ids t.channels card (header_in m) p o → port_in t o.reply ≡ At p
+  transfer_port : (p : ℕ) → p < t.ports → (o : Outcome) → Reallocation t.ids t.channels card (header_in m) p o → port_in t o.reply ≡ Some p
   unfolding transfer_fails transfer_gives
   transfer_port p port o (fails code) = port_back t (header_in m) 147 4 code p (port_at card p).delegation taken port
   transfer_port p port o (gives amount) = port_back t (header_in m) 147 3 0 p amount taken port
@@ -118,11 +118,11 @@ module _ (t : Tables) (card : Card) (l : Ledger) (a : Agree t card l) (taken : T
   reply_147 space = came_147 (received_of t.ids t.channels card m space) (came t.ids t.channels card m space)
 
 -- ---- a 147 that comes in
-pub at_eq : {q p : ℕ} → At q ≡ At p → q ≡ p
+pub at_eq : {q p : ℕ} → Some q ≡ Some p → q ≡ p
 at_eq e = cc
 
 module _ (t : Tables) (card : Card) (ports : card.head.port_count ≡ t.ports) (p : ℕ) (none : p < 64 → (port_at card p).asking ≡ false) where
-  came-none : (m : List ℕ) → kind_in m ≡ 147 → port_in t m ≡ At p → (o : Outcome) → Came t.ids t.channels card m o → o.number ≡ 0 → ⊥
+  came-none : (m : List ℕ) → kind_in m ≡ 147 → port_in t m ≡ Some p → (o : Outcome) → Came t.ids t.channels card m o → o.number ≡ 0 → ⊥
   unfolding kind_in port_in
   came-none m kind port o (kept n z) e = z e
   came-none m kind port o (notice k r) e = omega arith
@@ -131,7 +131,7 @@ module _ (t : Tables) (card : Card) (ports : card.head.port_count ≡ t.ports) (
   came-none m kind port o (reduced q k s) e = omega arith
   came-none m kind port o (queried reply q k) e = omega arith
   came-none m kind port o (answered q k r s) e =
-      let found : port_of t.ids card.head.port_count (id_in (drop 16 m)) ≡ At p = ap (λ (n : ℕ). port_of t.ids n (id_in (drop 16 m))) ports ∙ port in
+      let found : port_of t.ids card.head.port_count (id_in (drop 16 m)) ≡ Some p = ap (λ (n : ℕ). port_of t.ids n (id_in (drop 16 m))) ports ∙ port in
       let same : q ≡ p = at_eq (sym s.found ∙ found) in
       let asks = transferred_open card (header_in m) q (allocation_in (first_of 0x0015 (items_of (drop 16 m)))) e in
       false≢true

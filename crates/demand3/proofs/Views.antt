@@ -2,6 +2,7 @@
 --     port_below   a port that is found is below the count, and below 64
 --     Came, came   the kinds of answer, and that there are no others
 -- Assumes nothing.
+use Rattle.std.specs.Prelude.{Some, None}
 use Prim.Native.Nat.{ℕ, ◌<◌}
 use mathlib.Core.Path.{◌≡◌, refl}
 use mathlib.Core.Bool.{Bool, true, false, cond, false≢true, ◌&&◌, ◌||◌}
@@ -12,11 +13,9 @@ use lib.Dec.{eqb, ltb}
 use borrow.Author.Tests.{eqb-true, eqb-false, ne_eqb}
 use Rattle.octets.proofs.Tests.{both}
 use Rattle.header.specs.declared.Header.{Header}
-use Rattle.header.specs.declared.Head.TheVariants.{Unusable, Usable}
 use Rattle.header.specs.Header.{size_ok, usable, header_in, head_in}
 use Rattle.items.specs.Items.{items_of, first_of}
 use Rattle.fields.specs.Fields.{allocation_in, request_in}
-use Rattle.rows.specs.declared.Found.TheVariants.{At}
 use Rattle.circuits.specs.Circuits.{id_at, port_of}
 use Rattle.circuits.proofs.Circuits.{port_found}
 use Rattle.card.specs.Cards.{Card, port_at}
@@ -35,7 +34,7 @@ use Rattle.demand3.specs.Reads.{kind_in}
 use Rattle.demand3.proofs.Replies.{kind-amount, kind-flows}
 
 -- a port that is found is one of them, and below 64
-pub port_below : (ids : List ℕ) (n : ℕ) (id : List ℕ) {p : ℕ} → port_of ids n id ≡ At p → (p < n) × (p < 64)
+pub port_below : (ids : List ℕ) (n : ℕ) (id : List ℕ) {p : ℕ} → port_of ids n id ≡ Some p → (p < n) × (p < 64)
 port_below ids n id e = let f = port_found ids n id e in (f.below, f.small)
 
 -- ---- the answers
@@ -122,7 +121,7 @@ module _ (ids channels : List ℕ) (card : Card) (m : List ℕ) where
   unfolding head_in by_head
   came_head = go (usable m)
     where
-      go : (b : Bool) → Came (by_head ids channels card m (cond b (Usable (header_in m)) Unusable))
+      go : (b : Bool) → Came (by_head ids channels card m (cond b (Some (header_in m)) None))
       go true = came_result
       go false = kept 15 (λ e. omega arith)
 

@@ -1,5 +1,6 @@
 -- What a call comes to on any card: the ends that there are (`Way`), and those of each call (`up_way`, ..). Assumes
 -- nothing.
+use Rattle.std.specs.Prelude.{Option, Some, None}
 use Prim.Native.Nat.{ℕ}
 use mathlib.Core.Path.{◌≡◌, refl, sym, ◌∙◌}
 use mathlib.Core.Bool.{Bool, true, false, cond}
@@ -11,11 +12,9 @@ use Rattle.header.specs.declared.Header.{Header}
 use Rattle.header.specs.Header.{header_in}
 use Rattle.flows.specs.declared.Flow.{Flow}
 use Rattle.flows.specs.Flows.{good_flow}
-use Rattle.rows.specs.declared.Found.{Found}
-use Rattle.rows.specs.declared.Found.TheVariants.{At, Nothing}
 use Rattle.channels.specs.Channels.{channel_of}
 use Rattle.lists.specs.declared.Decision.{Decision}
-use Rattle.lists.specs.declared.Decision.TheVariants.{Black, Grey, White, None}
+use Rattle.lists.specs.declared.Decision.TheVariants.{Black, Grey, White, None as Unlisted}
 use Rattle.lists.specs.Lists.{list_decision}
 use Rattle.ports.specs.Ports.{brought_up, taken_down, closed, delegated, may_ask, answers, within}
 use Rattle.pool.specs.Pool.{is_active, has_flow, committed_of, ended_all}
@@ -75,12 +74,12 @@ module _ (t : Tables) (card : Card) (x : Call) where
   list_way p f space e k White = by (eqb (admit_number t.channels card card.head.white_cac p k) 0) _ _ (λ z. keeps_ports _ refl refl) (stays _)
   list_way p f space e k Grey = grey p f space e
   list_way p f space e k Black = stays 3
-  list_way p f space e k None = stays 3
+  list_way p f space e k Unlisted = stays 3
 
-  row-way : (p : ℕ) (f : Flow) (space : ℕ) → x ≡ join p f space → (r : Found) → Way (join_row t.ids t.channels t.entries card p f r)
+  row-way : (p : ℕ) (f : Flow) (space : ℕ) → x ≡ join p f space → (r : Option ℕ) → Way (join_row t.ids t.channels t.entries card p f r)
   unfolding join_row
-  row-way p f space e Nothing = stays 9
-  row-way p f space e (At k) =
+  row-way p f space e None = stays 9
+  row-way p f space e (Some k) =
       by (is_active card.pool p k) _ _ (λ z. stays 1) (list_way p f space e k (list_decision t.entries card.head.entry_count f))
 
   reduced_way : (h : Header) (p : ℕ) (o : Outcome) → Reallocation t.ids t.channels card h p o → Way o

@@ -1,10 +1,8 @@
 -- Worthless builds (CARD.md, "What is promised") that are about state: each has our start and readers but for what is
 -- said, and the claim fails for it. Assumes nothing: these are definitions; the statements are proved in proofs/, and
 -- owed with the claim.
-use Rattle.std.specs.Prelude.{ℕ, cond, List, [], ◌∷◌, drop, eqb}
+use Rattle.std.specs.Prelude.{ℕ, cond, List, [], ◌∷◌, drop, eqb, Option, Some, None}
 use Rattle.header.specs.Header.{header_in}
-use Rattle.rows.specs.declared.Found.{Found}
-use Rattle.rows.specs.declared.Found.TheVariants.{At, Nothing}
 use Rattle.pool.specs.Pool.{committed_of}
 use Rattle.card.specs.Cards.{Card}
 use Rattle.card.specs.Outcome.{Outcome, keeps}
@@ -45,10 +43,10 @@ unfoldable pub changing_nothing : Tables → Card → Call → Outcome
 changing_nothing t card x = record { card = card; number = (outcome_of t card x).number; reply = (outcome_of t card x).reply }
 
 -- runs command 1 of a 144 and merely acknowledges the others
-unfoldable pub first_run : Tables → Card → List (List ℕ) → Found → Card
+unfoldable pub first_run : Tables → Card → List (List ℕ) → Option ℕ → Card
 first_run t card [] found = card
-first_run t card (c ∷ cs) Nothing = card
-first_run t card (c ∷ cs) (At p) = (ran_of t.channels card p c).card
+first_run t card (c ∷ cs) None = card
+first_run t card (c ∷ cs) (Some p) = (ran_of t.channels card p c).card
 
 unfoldable pub first_only : Tables → Card → Call → Outcome
 first_only t card x =
@@ -93,9 +91,9 @@ unfoldable pub refusing_messages : Tables → Card → Call → Outcome
 refusing_messages t card x = of_message (λ m space. keeps card 15) (outcome_of t card x) x
 
 -- robs port 0: a 146 for another port cuts port 0's delegation to what is committed there, and the 147 says so, and names port 0
-unfoldable pub robbed : Tables → Card → List ℕ → Found → Outcome → Outcome
-robbed t card m Nothing o = o
-robbed t card m (At p) o = cond (eqb p 0) o (transfer_gives t.ids card (header_in m) 0 (committed_of t.channels card.pool 0))
+unfoldable pub robbed : Tables → Card → List ℕ → Option ℕ → Outcome → Outcome
+robbed t card m None o = o
+robbed t card m (Some p) o = cond (eqb p 0) o (transfer_gives t.ids card (header_in m) 0 (committed_of t.channels card.pool 0))
 
 unfoldable pub robber : Tables → Card → Call → Outcome
 robber t card x =

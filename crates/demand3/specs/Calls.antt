@@ -1,8 +1,6 @@
 -- A host's calls, the builds that answer them, and lists of calls. Assumes nothing: these are definitions.
-use Rattle.std.specs.Prelude.{ℕ, Bool, List, [], ◌∷◌, map}
+use Rattle.std.specs.Prelude.{ℕ, Bool, List, [], ◌∷◌, map, Option, Some}
 use Rattle.flows.specs.declared.Flow.{Flow}
-use Rattle.rows.specs.declared.Found.{Found}
-use Rattle.rows.specs.declared.Found.TheVariants.{At}
 use Rattle.channels.specs.Channels.{channel_at}
 use Rattle.card.specs.Cards.{Card}
 use Rattle.card.specs.Start.{Started, start_of}
@@ -92,14 +90,14 @@ history b t card (x ∷ xs) = seen b t card x ∷ history b t (b.outcome t card 
 
 -- ---- what some statements single out
 -- a join, the host asking, a message; and any other call, by the port that it is about, if it is about one
-unfoldable pub by_call {ℓ} : {A : Type ℓ} → (ℕ → Flow → ℕ → A) → (ℕ → A) → (List ℕ → ℕ → A) → (Found → A) → Call → A
+unfoldable pub by_call {ℓ} : {A : Type ℓ} → (ℕ → Flow → ℕ → A) → (ℕ → A) → (List ℕ → ℕ → A) → (Option ℕ → A) → Call → A
 by_call joins asks told other (join p f space) = joins p f space
 by_call joins asks told other (ask p required preferred space) = asks p
 by_call joins asks told other (message m space) = told m space
-by_call joins asks told other (port_up p) = other (At p)
-by_call joins asks told other (port_down p) = other (At p)
-by_call joins asks told other (set_delegation p amount) = other (At p)
-by_call joins asks told other (leave p f) = other (At p)
+by_call joins asks told other (port_up p) = other (Some p)
+by_call joins asks told other (port_down p) = other (Some p)
+by_call joins asks told other (set_delegation p amount) = other (Some p)
+by_call joins asks told other (leave p f) = other (Some p)
 
 -- what is said of a join, and of every other call; the same of a message
 abbrev pub of_join : {A : Type 0} → (ℕ → Flow → ℕ → A) → A → Call → A

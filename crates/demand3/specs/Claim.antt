@@ -1,5 +1,5 @@
 -- Demand 3 as one claim about any list of calls from any start that is taken. Assumes nothing: these are definitions.
-use Rattle.std.specs.Prelude.{ℕ, suc, ◌+◌, ◌-◌, ◌≤◌, ◌<◌, ◌≡◌, Bool, true, false, cond, List, [], ◌∷◌, ◌++◌, ◌⊎◌, ◌↔◌, length, drop}
+use Rattle.std.specs.Prelude.{ℕ, suc, ◌+◌, ◌-◌, ◌≤◌, ◌<◌, ◌≡◌, Bool, true, false, cond, List, [], ◌∷◌, ◌++◌, ◌⊎◌, ◌↔◌, length, drop, Some}
 use Rattle.flows.specs.declared.Flow.{Flow}
 use Rattle.flows.specs.Flows.{same_flow, flow_before}
 use Rattle.header.specs.Header.{size_ok, usable}
@@ -10,7 +10,7 @@ use Rattle.tables.specs.Tables.{tables_ok}
 use Rattle.sums.specs.Sums.{sum_to, sum_by}
 use Rattle.card.specs.Cards.{Card}
 use Rattle.card.specs.Outcome.{Outcome}
-use Rattle.demand3.specs.Reads.{At, Directive, malformed, add, delete, delete_all, directive_of, commands_in, kind_in, result_in, transaction_in, tlvs_in, port_in, listed, rate_of, IsWhite, NoneIsAbout}
+use Rattle.demand3.specs.Reads.{Directive, malformed, add, delete, delete_all, directive_of, commands_in, kind_in, result_in, transaction_in, tlvs_in, port_in, listed, rate_of, IsWhite, NoneIsAbout}
 use Rattle.demand3.specs.Calls.{Tables, Call, Build, card_after, history}
 use Rattle.demand3.specs.Calls.Call.{port_up, set_delegation, join, message}
 use Rattle.demand3.specs.Ledger.{Held, Line, Ledger, write, holds, acted_in, acts, acts_all, opened, ledger_from}
@@ -82,7 +82,7 @@ pub record Sound (t : Tables) (m : List ℕ) (kind p : ℕ) : Type 0 where
   pub lengths : list_ok 3 false (drop 16 m) ≡ true
   pub target : count_of 0x1000 (tlvs_in m) ≡ 1
   pub circuit : circuit_ids (first_of 0x1000 (tlvs_in m)) ≡ 1
-  pub port : port_in t m ≡ At p
+  pub port : port_in t m ≡ Some p
 
 -- a sound 144 with Result 1 or 2, whose commands are `before`, all of which succeed, then a well-formed Add of f, then `after`
 pub record Reaches (t : Tables) (l : Ledger) (m : List ℕ) (p : ℕ) (f : Flow) (before after : List (List ℕ)) : Type 0 where

@@ -1,6 +1,6 @@
 -- What follows from demand 3, and of the calls beside it. Assumes nothing: these are definitions; the statements are proved in proofs/, and owed
 -- with the claim.
-use Rattle.std.specs.Prelude.{ℕ, suc, ◌+◌, ◌≤◌, ◌<◌, ◌≡◌, true, ◌⊎◌, length}
+use Rattle.std.specs.Prelude.{ℕ, suc, ◌+◌, ◌≤◌, ◌<◌, ◌≡◌, true, ◌⊎◌, length, Some}
 use mathlib.Core.List.{List, [], ◌∷◌, ◌++◌, flat_map}
 use Rattle.flows.specs.declared.Flow.{Flow}
 use Rattle.header.specs.Header.{size_ok, usable, header_in, message_of}
@@ -9,7 +9,6 @@ use Rattle.replies.specs.Replies.{reply_header}
 use Rattle.flow_octets.specs.FlowOctets.{flow_tlv}
 use Rattle.circuits.specs.Circuits.{id_at}
 use Rattle.lists.specs.Lists.{list_decision}
-use Rattle.rows.specs.declared.Found.TheVariants.{At}
 use Rattle.card.specs.Cards.{Card}
 use Rattle.card.specs.Outcome.{writes}
 use Rattle.demand3.specs.Calls.{Tables, Call, Build, ours, outcome_of, started_of, card_after, history, by_call}
@@ -48,7 +47,7 @@ pub record FirstFour (b : Build) (t : Tables) (first : ℕ) (xs ys : List Call) 
 
 -- on this card no Bandwidth Transfer (147) for port p is taken
 abbrev pub TakesNone : Tables → Card → ℕ → Type 0
-TakesNone t card p = (m : List ℕ) (space : ℕ) → kind_in m ≡ 147 → port_in t m ≡ At p → (outcome_of t card (message m space)).number ≡ 0 → ⊥
+TakesNone t card p = (m : List ℕ) (space : ℕ) → kind_in m ≡ 147 → port_in t m ≡ Some p → (outcome_of t card (message m space)).number ≡ 0 → ⊥
 
 -- the host asks for port p
 unfoldable pub Asks : Call → ℕ → Type 0
@@ -111,7 +110,7 @@ pub record Corollaries : Type 0 where
   pub closed-by-down : (t : Tables) (first : ℕ) → (started_of t first).number ≡ 0 → (xs : List Call) (p : ℕ)
       → (outcome_of t (card_from t first xs) (port_down p)).number ≡ 0 → NoneUntilAsked t (outcome_of t (card_from t first xs) (port_down p)).card p
   pub closed-by_146 : (t : Tables) (first : ℕ) → (started_of t first).number ≡ 0 → (xs : List Call) (m : List ℕ) (space p : ℕ)
-      → kind_in m ≡ 146 → port_in t m ≡ At p → kind_in (outcome_of t (card_from t first xs) (message m space)).reply ≡ 147
+      → kind_in m ≡ 146 → port_in t m ≡ Some p → kind_in (outcome_of t (card_from t first xs) (message m space)).reply ≡ 147
       → result_in (outcome_of t (card_from t first xs) (message m space)).reply ≡ 3
       → NoneUntilAsked t (outcome_of t (card_from t first xs) (message m space)).card p
   -- the delegation changes by set delegation, a 146 or a taken 147 alone

@@ -1,11 +1,11 @@
 -- The ledger (DEMAND3.md): what a reader of the calls' arguments, numbers and replies writes down of each port.
 -- It is fed nothing else, and never looks at a card. Assumes nothing: these are definitions.
-use Rattle.std.specs.Prelude.{ℕ, ◌-◌, Bool, true, false, cond, ◌&&◌, ◌||◌, List, [], ◌∷◌, take, drop, eqb}
+use Rattle.std.specs.Prelude.{ℕ, ◌-◌, Bool, true, false, cond, ◌&&◌, ◌||◌, List, [], ◌∷◌, take, drop, eqb, Option, Some, None}
 use Rattle.flows.specs.declared.Flow.{Flow}
 use Rattle.flows.specs.Flows.{same_flow}
 use Rattle.items.specs.Items.{count_of, first_of}
 use Rattle.fields.specs.Fields.{sequence_in}
-use Rattle.demand3.specs.Reads.{Found, At, Nothing, Directive, malformed, add, delete, delete_all, directive_of, commands_in, kind_in, result_in, port_in, amount_in, enclosed_in}
+use Rattle.demand3.specs.Reads.{Directive, malformed, add, delete, delete_all, directive_of, commands_in, kind_in, result_in, port_in, amount_in, enclosed_in}
 use Rattle.demand3.specs.Calls.{Tables, Call, Seen}
 use Rattle.demand3.specs.Calls.Call.{port_up, port_down, set_delegation, join, leave, ask, message}
 
@@ -72,9 +72,9 @@ acts_all t x [] = x
 acts_all t x (c ∷ cs) = acts_all t (acts t x (directive_of c)) cs
 
 -- the line of a port that is found is rewritten
-unfoldable pub write_at : Ledger → Found → (Line → Line) → Ledger
-write_at l Nothing change = l
-write_at l (At p) change = write l p (change (l p))
+unfoldable pub write_at : Ledger → Option ℕ → (Line → Line) → Ledger
+write_at l None change = l
+write_at l (Some p) change = write l p (change (l p))
 
 -- "a 147 in reply, or taken with Result 3, gives the delegation; a 144 with Result 1 or 2 reaches all commands, or .."
 unfoldable pub message_entry : Tables → Ledger → List ℕ → List ℕ → Ledger

@@ -1,11 +1,10 @@
 -- What the ledger and the claim read off the tables, a message or a reply; each is what its name says. Assumes nothing: these are
 -- definitions.
-use Rattle.std.specs.Prelude.{ℕ, ◌≡◌, Bool, not, List, [], ◌∷◌, drop}
+use Rattle.std.specs.Prelude.{ℕ, ◌≡◌, Bool, not, List, [], ◌∷◌, drop, is_none, Option, Some, None}
 use Rattle.flows.specs.declared.Flow.{Flow}
 use Rattle.header.specs.Header.{header_in}
 use Rattle.items.specs.Items.{Item, items_of, first_of}
 use Rattle.fields.specs.Fields.{allocation_in, status_tlvs}
-use Rattle.rows.specs.Rows.{is_nothing}
 use Rattle.channels.specs.Channels.{channel_of, rate_at}
 use Rattle.circuits.specs.Circuits.{port_of}
 use Rattle.lists.specs.declared.Decision.TheVariants.{White}
@@ -13,8 +12,6 @@ use Rattle.lists.specs.Lists.{list_decision}
 use Rattle.checks.specs.Table.{id_in}
 use Rattle.demand3.specs.Calls.{Tables, Call, by_call}
 -- a port that is found or not, the commands of a 144, and what a command asks for
-pub use Rattle.rows.specs.declared.Found.{Found}
-pub use Rattle.rows.specs.declared.Found.TheVariants.{At, Nothing}
 pub use Rattle.control.specs.Control.{commands_in}
 pub use Rattle.commands.specs.Directives.{Directive, directive_of}
 pub use Rattle.commands.specs.Directives.Directive.{malformed, add, delete, delete_all}
@@ -35,7 +32,7 @@ unfoldable pub tlvs_in : List ℕ → List Item
 tlvs_in m = items_of (drop 16 m)
 
 -- the port that its Target names
-unfoldable pub port_in : Tables → List ℕ → Found
+unfoldable pub port_in : Tables → List ℕ → Option ℕ
 port_in t m = port_of t.ids t.ports (id_in (drop 16 m))
 
 -- the amount of its Bandwidth-Allocation
@@ -50,11 +47,11 @@ enclosed_in m = items_of (status_tlvs (first_of 0x0106 (tlvs_in m)))
 
 -- the flow is that of a listed channel
 unfoldable pub listed : Tables → Flow → Bool
-listed t f = not (is_nothing (channel_of t.channels t.channel_count f))
+listed t f = not (is_none (channel_of t.channels t.channel_count f))
 
-unfoldable pub rate_by : Tables → Found → ℕ
-rate_by t (At k) = rate_at t.channels k
-rate_by t Nothing = 0
+unfoldable pub rate_by : Tables → Option ℕ → ℕ
+rate_by t (Some k) = rate_at t.channels k
+rate_by t None = 0
 
 -- its channel's rate
 unfoldable pub rate_of : Tables → Flow → ℕ
@@ -68,7 +65,7 @@ IsWhite t f = list_decision t.entries t.entry_count f ≡ White
 
 -- it is about port p: a host's call for p, a message whose Target names p
 unfoldable pub IsAbout : Tables → Call → ℕ → Type 0
-IsAbout t x p = by_call (λ q f space. q ≡ p) (λ q. q ≡ p) (λ m space. port_in t m ≡ At p) (λ q. q ≡ At p) x
+IsAbout t x p = by_call (λ q f space. q ≡ p) (λ q. q ≡ p) (λ m space. port_in t m ≡ Some p) (λ q. q ≡ Some p) x
 
 -- none of some calls is about it
 unfoldable pub NoneIsAbout : Tables → List Call → ℕ → Type 0

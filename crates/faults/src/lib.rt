@@ -9,7 +9,6 @@ use channels::{channel_at, channel_of, rate_at};
 use circuits::{id_at, port_of};
 use flows::{good_group, good_source, known_family};
 use lists::entry_at;
-use rows::is_nothing;
 use tables::{known_list, within_address};
 
 // Tables: 1 ports, 2 channels, 3 list entries, 4 the first number; 0 where start takes all of them.
@@ -90,7 +89,7 @@ fn port_fault(ids: &[u8; 4096], p: u8) -> Fault
     if 63 < length {
         return fault_at(1, at, 2);
     }
-    if !is_nothing(port_of(ids, at, id_at(ids, p))) {
+    if port_of(ids, at, id_at(ids, p)).is_some() {
         return fault_at(1, at, 3);
     }
     fault_at(0, 0, 0)
@@ -138,7 +137,7 @@ fn channel_fault(channels: &[u32; 2816], i: u8) -> Fault
     if !good_source(f.family, f.sourced, source) {
         return fault_at(2, at, 7);
     }
-    if !is_nothing(channel_of(channels, at, f)) {
+    if channel_of(channels, at, f).is_some() {
         return fault_at(2, at, 3);
     }
     fault_at(0, 0, 0)

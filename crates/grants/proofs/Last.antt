@@ -3,6 +3,7 @@
 --     calls_last     the same after any list of calls
 --     Opened, taken_open     a 147 that is taken answers the open request of the port that it names
 -- Assumes nothing.
+use Rattle.std.specs.Prelude.{Some}
 use Prim.Native.Nat.{ℕ, ◌<◌}
 use mathlib.Core.Path.{◌≡◌, refl, sym, ap, subst, ◌∙◌}
 use mathlib.Core.Bool.{Bool, true, false, cond, false≢true}
@@ -22,7 +23,6 @@ use Rattle.replies.specs.Replies.{begin_header, amount_reply}
 use Rattle.begun.specs.Begun.{admission_of, reallocation_of}
 use Rattle.flows.specs.declared.Flow.{Flow}
 use Rattle.flow_octets.specs.FlowOctets.{flow_tlv}
-use Rattle.rows.specs.declared.Found.TheVariants.{At}
 use Rattle.circuits.specs.Circuits.{id_at, port_of}
 use Rattle.ports.specs.declared.Port.{Port}
 use Rattle.ports.specs.Ports.{fresh_port, brought_up, taken_down, closed, delegated, asked, answers, within}
@@ -94,7 +94,7 @@ module _ (t : Tables) (taken : TablesTaken t) (p : ℕ) (below : p < 64) (card :
     abbrev request : List ℕ
     request = reallocation_of number (id_at t.ids q) required preferred
 
-    names : port_in t request ≡ At q
+    names : port_in t request ≡ Some q
     unfolding reallocation_of
     names = target_port t (begin_header 146 number) q (request_of required preferred) taken one
 
@@ -111,7 +111,7 @@ module _ (t : Tables) (taken : TablesTaken t) (p : ℕ) (below : p < 64) (card :
         same_or_not q p
         (λ e. subst (λ (i : ℕ). After request (port_at (with_port card i (asked (port_at card i) required preferred number)) p)) (sym e)
         (subst (After request) (sym (port_set t card l a p below (asked (port_at card p) required preferred number)))
-        (λ z. opened-here (kind_is, names ∙ ap At e) number_is)))
+        (λ z. opened-here (kind_is, names ∙ ap Some e) number_is)))
         (λ d. subst (After request) (sym (get_or-set_other card.ports q p (asked (port_at card q) required preferred number) fresh_port (λ e. d (sym e))))
         (λ z. open_before z refl (λ r. d (at_eq (sym names ∙ r.1)))))
 
@@ -190,7 +190,7 @@ module _ (t : Tables) (taken : TablesTaken t) (p : ℕ) (below : p < 64) where
 -- ---- a 147 that is taken
 pub record Opened (t : Tables) (card : Card) (m : List ℕ) : Type 0 where
   pub p : ℕ
-  pub port : port_in t m ≡ At p
+  pub port : port_in t m ≡ Some p
   pub below : p < 64
   pub is_open : (port_at card p).asking ≡ true
   pub number : (port_at card p).transaction ≡ transaction_in m

@@ -1,5 +1,6 @@
 -- A 147 that is taken closes the request of its port: no other is taken until the card has written another 146 for it.
 -- Assumes nothing.
+use Rattle.std.specs.Prelude.{Some}
 use Prim.Native.Nat.{ℕ, ◌<◌}
 use mathlib.Core.Path.{◌≡◌, refl, sym, ap, subst, ◌∙◌}
 use mathlib.Core.Bool.{Bool, true, false, cond, false≢true}
@@ -11,7 +12,6 @@ use Rattle.header.specs.declared.Header.{Header}
 use Rattle.header.specs.Header.{header_in}
 use Rattle.items.specs.Items.{items_of, first_of}
 use Rattle.fields.specs.Fields.{allocation_in}
-use Rattle.rows.specs.declared.Found.TheVariants.{At}
 use Rattle.circuits.specs.Circuits.{port_of}
 use Rattle.ports.specs.declared.Port.{Port}
 use Rattle.ports.specs.Ports.{closed, delegated, answers, within}
@@ -53,7 +53,7 @@ module _ (t : Tables) (card : Card) (l : Ledger) (a : Agree t card l) (p : ℕ) 
       go true false false e = absurd (omega arith)
       go false c d e = absurd (omega arith)
 
-  came-shut : (m : List ℕ) → kind_in m ≡ 147 → port_in t m ≡ At p → (o : Outcome) → Came t.ids t.channels card m o → o.number ≡ 0 → (port_at o.card p).asking ≡ false
+  came-shut : (m : List ℕ) → kind_in m ≡ 147 → port_in t m ≡ Some p → (o : Outcome) → Came t.ids t.channels card m o → o.number ≡ 0 → (port_at o.card p).asking ≡ false
   unfolding kind_in port_in
   came-shut m kind port o (kept n z) e = absurd (z e)
   came-shut m kind port o (notice k r) e = absurd (omega arith)
@@ -67,7 +67,7 @@ module _ (t : Tables) (card : Card) (l : Ledger) (a : Agree t card l) (p : ℕ) 
       subst (λ (i : ℕ). (transferred card (header_in m) i amount).number ≡ 0 → (port_at (transferred card (header_in m) i amount).card p).asking ≡ false) (sym same)
       (transferred-shut (header_in m) amount) e
 
-  taken-shut : (m : List ℕ) → port_in t m ≡ At p → (k : IsTaken t card m) → (port_at (taken_by k) p).asking ≡ false
+  taken-shut : (m : List ℕ) → port_in t m ≡ Some p → (k : IsTaken t card m) → (port_at (taken_by k) p).asking ≡ false
   unfolding outcome_of
   taken-shut m port k =
       came-shut m k.kind port (received_of t.ids t.channels card m k.space) (came t.ids t.channels card m k.space) k.done
@@ -83,9 +83,9 @@ not_since t p card n ws shut none (open_since e k d) = false≢true (sym shut �
 not_since t p card n ws shut none (last_in k) =
     none_here t p k.request k.before k.after (subst (NoRequest t p) k.among none) k.is_request
 
-module _ (t : Tables) (tables : TablesTaken t) (card : Card) (l : Ledger) (a : Agree t card l) (range : InRange card) (p : ℕ) (m : List ℕ) (port : port_in t m ≡ At p) (k : IsTaken t card m) where
+module _ (t : Tables) (tables : TablesTaken t) (card : Card) (l : Ledger) (a : Agree t card l) (range : InRange card) (p : ℕ) (m : List ℕ) (port : port_in t m ≡ Some p) (k : IsTaken t card m) where
   pub taken-once : (more : List Call) → NoRequest t p (written_from t (taken_by k) more)
-      → (n : List ℕ) → port_in t n ≡ At p → IsTaken t (card_after ours t (taken_by k) more) n → ⊥
+      → (n : List ℕ) → port_in t n ≡ Some p → IsTaken t (card_after ours t (taken_by k) more) n → ⊥
   taken-once more none n names j =
       let x : Call = message m k.space in
       let b : Agree t (taken_by k) (entered t l (seen ours t card x)) = call_step t tables card l a x in

@@ -2,6 +2,7 @@
 --     last_of, once_of, stretch_of, differ_of     one start
 --     apart_of, restart_of                        two starts
 -- Assumes nothing.
+use Rattle.std.specs.Prelude.{Some}
 use Prim.Native.Nat.{ℕ, suc, ◌+◌, ◌-◌, ◌<◌}
 use mathlib.Core.Path.{◌≡◌, refl, sym, ap, subst, ◌∙◌}
 use mathlib.Core.Bool.{Bool, true, false, cond, false≢true}
@@ -11,7 +12,6 @@ use native.Mathlib.Omega.{arith}
 use lib.ListN.{length, get_or}
 use Rattle.octets.specs.Members.{Among}
 use Rattle.ports.specs.declared.Port.{Port}
-use Rattle.rows.specs.declared.Found.TheVariants.{At}
 use Rattle.numbers.specs.Numbers.{number_after}
 use Rattle.numbers.proofs.Circle.{after-zero, after-add, after_range, after-apart}
 use Rattle.demand3.specs.Calls.{Tables, Call, ours, started_of, card_after}
@@ -46,8 +46,8 @@ module _ (t : Tables) (first : ℕ) (started : (started_of t first).number ≡ 0
             (none_open o.p o.below _ (calls_last t tables o.p o.below calls (started_of t first).card opened agree (first_range t first started) o.is_open));
       }
 
-  once_of : (p : ℕ) (m : List ℕ) → port_in t m ≡ At p → (k : IsTaken t (card_from t first calls) m) → (more : List Call)
-      → NoRequest t p (written_from t (taken_by k) more) → (n : List ℕ) → port_in t n ≡ At p → IsTaken t (card_after ours t (taken_by k) more) n → ⊥
+  once_of : (p : ℕ) (m : List ℕ) → port_in t m ≡ Some p → (k : IsTaken t (card_from t first calls) m) → (more : List Call)
+      → NoRequest t p (written_from t (taken_by k) more) → (n : List ℕ) → port_in t n ≡ Some p → IsTaken t (card_after ours t (taken_by k) more) n → ⊥
   once_of p m port k =
       let s = agree_fresh t first started in
       taken-once t s.0 (card_from t first calls) _ (calls_agree t s.0 calls (started_of t first).card opened s.1) (counter_range t first started calls) p m port k

@@ -1,9 +1,8 @@
 -- Whose grants a card takes. The operator's incident: after a restart an old grant answered a new question.
 -- All is read off the octets that a card wrote and those that it is handed. Assumes nothing: these are definitions.
-use Rattle.std.specs.Prelude.{ℕ, ◌+◌, ◌≤◌, ◌<◌, ◌≡◌, Bool, cond, ◌||◌, List, [], ◌∷◌, ◌++◌, map, length, get_or, eqb}
+use Rattle.std.specs.Prelude.{ℕ, ◌+◌, ◌≤◌, ◌<◌, ◌≡◌, Bool, cond, ◌||◌, List, [], ◌∷◌, ◌++◌, map, length, get_or, eqb, Some}
 use Rattle.octets.specs.Members.{Among}
 use Rattle.header.specs.Header.{header_in}
-use Rattle.rows.specs.declared.Found.TheVariants.{At}
 use Rattle.card.specs.Cards.{Card}
 use Rattle.numbers.specs.Numbers.{number_after}
 use Rattle.demand3.specs.Calls.{Tables, Call, Seen, ours, outcome_of, started_of, card_after, history}
@@ -38,7 +37,7 @@ begun_of t first calls = numbers_of (written_of t first calls)
 -- ---- the last request for a port
 -- m is a 146 for port p
 abbrev pub IsRequest : Tables → ℕ → List ℕ → Type 0
-IsRequest t p m = (kind_in m ≡ 146) × (port_in t m ≡ At p)
+IsRequest t p m = (kind_in m ≡ 146) × (port_in t m ≡ Some p)
 
 -- none of some messages is
 unfoldable pub NoRequest : Tables → ℕ → List (List ℕ) → Type 0
@@ -58,7 +57,7 @@ pub record LastRequest (t : Tables) (p n : ℕ) (ms : List (List ℕ)) : Type 0 
 -- m names a port, and has the transaction number of the last request for it
 pub record OwnGrant (t : Tables) (m : List ℕ) (ms : List (List ℕ)) : Type 0 where
   pub p : ℕ
-  pub port : port_in t m ≡ At p
+  pub port : port_in t m ≡ Some p
   pub last : LastRequest t p (transaction_in m) ms
 
 -- ---- numbers around the circle of 1 to 16,777,215
@@ -103,8 +102,8 @@ pub record Grants : Type 0 where
       → IsTaken t (card_from t first calls) m → OwnGrant t m (written_of t first calls)
   -- after it no other is taken for this port, whatever is called, until the card has written another 146 for it
   pub once : (t : Tables) (first : ℕ) → (started_of t first).number ≡ 0 → (calls : List Call) (p : ℕ) (m : List ℕ)
-      → port_in t m ≡ At p → (k : IsTaken t (card_from t first calls) m) → (more : List Call)
-      → NoRequest t p (written_from t (taken_by k) more) → (n : List ℕ) → port_in t n ≡ At p
+      → port_in t m ≡ Some p → (k : IsTaken t (card_from t first calls) m) → (more : List Call)
+      → NoRequest t p (written_from t (taken_by k) more) → (n : List ℕ) → port_in t n ≡ Some p
       → IsTaken t (card_after ours t (taken_by k) more) n → ⊥
   -- the messages that a card began have the numbers from `first` on, one after the other, up to the present one
   pub stretch : (t : Tables) (first : ℕ) → (started_of t first).number ≡ 0 → (calls : List Call)

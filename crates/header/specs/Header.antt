@@ -1,12 +1,10 @@
 -- The header of a message (CARD.md, "Octets"): when a message is unusable, what its header says, and how a header is
 -- written. Assumes nothing: these are definitions.
-use Rattle.std.specs.Prelude.{ℕ, ◌+◌, ◌-◌, List, [], ◌∷◌, ◌++◌, Bool, cond, length, leb, eqb}
+use Rattle.std.specs.Prelude.{ℕ, ◌+◌, ◌-◌, List, [], ◌∷◌, ◌++◌, Bool, cond, length, leb, eqb, Option, None, Some}
 use Rattle.octets.specs.Numbers.{be8, be16, be24, oct8, oct16, oct24}
 use Rattle.octets.specs.Tests.{every}
 use Rattle.header.specs.Bits.{result_of, code_of, result_and_code, i_bit_of, submessage_of, i_bit_and_submessage}
 use Rattle.header.specs.declared.Header.{Header}
-use Rattle.header.specs.declared.Head.{Head}
-use Rattle.header.specs.declared.Head.TheVariants.{Unusable, Usable}
 
 -- the size of a message that is handed in. What the card writes may be longer, and reads back by the same rules but this one
 unfoldable pub size_ok : List ℕ → Bool
@@ -36,8 +34,8 @@ header_in s =
       transaction = be24 s 9;
     }
 
-unfoldable pub head_in : List ℕ → Head
-head_in s = cond (usable s) (Usable (header_in s)) Unusable
+unfoldable pub head_in : List ℕ → Option Header
+head_in s = cond (usable s) (Some (header_in s)) None
 
 -- the octets of a header before n octets of TLVs: 0x880C; length; version; type; Result and Result Code; partition; transaction;
 -- I bit and submessage number; length

@@ -18,12 +18,6 @@ pub struct Header {
     pub transaction: u32,
 }
 
-#[derive(Clone, Copy)]
-pub enum Head {
-    Unusable,
-    Usable(Header),
-}
-
 pub fn size_ok(s: &[u8]) -> bool
     ensures { result ≡ size_ok s.now }
 {
@@ -34,16 +28,17 @@ pub fn size_ok(s: &[u8]) -> bool
     n <= 4096
 }
 
-pub fn read_header(s: &[u8]) -> Head
+// None where the header is unusable.
+pub fn read_header(s: &[u8]) -> Option<Header>
     ensures { result ≡ head_in s.now }
 {
     if s.len() < 16 {
-        return Head::Unusable;
+        return None;
     }
     if usable_fields(s) {
-        return Head::Usable(header_fields(s));
+        return Some(header_fields(s));
     }
-    Head::Unusable
+    None
 }
 
 fn usable_fields(s: &[u8]) -> bool

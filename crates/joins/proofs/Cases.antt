@@ -1,4 +1,5 @@
 -- The cases of join and ask, each from the tests that lead to it. Assumes nothing.
+use Rattle.std.specs.Prelude.{Some}
 use mathlib.Core.Path.{◌≡◌, refl, sym, ap, ◌∙◌}
 use mathlib.Core.Bool.{true, false, cond}
 use mathlib.Core.List.{List}
@@ -9,7 +10,6 @@ use Rattle.octets.proofs.Tests.{taken, left}
 use Rattle.flows.specs.declared.Flow.{Flow}
 use Rattle.flows.specs.Flows.{good_flow}
 use Rattle.channels.specs.Channels.{channel_of}
-use Rattle.rows.specs.declared.Found.TheVariants.{At}
 use Rattle.lists.specs.declared.Decision.{Decision}
 use Rattle.lists.specs.Lists.{list_decision}
 use Rattle.pool.specs.Pool.{is_active, began}
@@ -125,13 +125,13 @@ module _ (ids channels entries : List ℕ) (card : Card) (p : ℕ) (f : Flow) (k
   abbrev decides : Decision → Outcome
   decides d = by_list ids channels card p f k d
 
-  pub row_1 : is_active card.pool p k ≡ true → keeps card 1 ≡ join_row ids channels entries card p f (At k)
+  pub row_1 : is_active card.pool p k ≡ true → keeps card 1 ≡ join_row ids channels entries card p f (Some k)
   unfolding join_row
   row_1 h = taken (is_active card.pool p k) (keeps card 1) (decides (list_decision entries card.head.entry_count f)) h
 
   -- d is what the lists decide
   pub row_list : is_active card.pool p k ≡ false → {d x : Decision} → x ≡ list_decision entries card.head.entry_count f → x ≡ d
-      → decides d ≡ join_row ids channels entries card p f (At k)
+      → decides d ≡ join_row ids channels entries card p f (Some k)
   unfolding join_row
   row_list h {d} e g =
       ap decides (sym g ∙ e) ∙ left (is_active card.pool p k) (keeps card 1) (decides (list_decision entries card.head.entry_count f)) h

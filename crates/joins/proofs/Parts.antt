@@ -2,11 +2,11 @@
 --     found_is, decided_is     the channel that was found, and what the lists decide
 --     terms_lent               what admission asks for
 -- Assumes nothing.
+use Rattle.std.specs.Prelude.{Option}
 use mathlib.Core.Path.{◌≡◌, refl, sym, ap, ◌∙◌}
 use mathlib.Core.List.{List}
 use Prim.Native.Nat.{ℕ, ◌<◌}
 use Rattle.flows.specs.declared.Flow.{Flow}
-use Rattle.rows.specs.declared.Found.{Found}
 use Rattle.channels.specs.Channels.{channel_of}
 use Rattle.lists.specs.declared.Decision.{Decision}
 use Rattle.lists.specs.Lists.{list_decision}
@@ -19,7 +19,7 @@ use Rattle.card.proofs.Parts.{channels_are, entries_are, port_is}
 use Rattle.joins.specs.Joins.{AsLent}
 
 module _ {card : Card} {p : ℕ} {terms : Terms} (h : HasTerms card p terms) where
-  pub found_is : (channels : List ℕ) (f : Flow) {found x : Found} → found ≡ channel_of channels terms.head.channel_count f → found ≡ x
+  pub found_is : (channels : List ℕ) (f : Flow) {found x : Option ℕ} → found ≡ channel_of channels terms.head.channel_count f → found ≡ x
       → x ≡ channel_of channels card.head.channel_count f
   found_is channels f e t = sym t ∙ e ∙ ap (λ (n : ℕ). channel_of channels n f) (sym (channels_are h))
 

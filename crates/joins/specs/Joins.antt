@@ -1,13 +1,11 @@
 -- Join, check by check in CARD.md's order: 13, 7, 6, 8, 9, 1, then lists (3 or 2), 5, 4. Assumes nothing: these are
 -- definitions.
-use Rattle.std.specs.Prelude.{ℕ, ◌+◌, ◌≡◌, Bool, cond, List, eqb, leb, ltb}
+use Rattle.std.specs.Prelude.{ℕ, ◌+◌, ◌≡◌, Bool, cond, List, eqb, leb, ltb, Option, Some, None}
 use Rattle.flows.specs.declared.Flow.{Flow}
 use Rattle.flows.specs.Flows.{good_flow}
-use Rattle.rows.specs.declared.Found.{Found}
-use Rattle.rows.specs.declared.Found.TheVariants.{At, Nothing}
 use Rattle.channels.specs.Channels.{channel_of, rate_at}
 use Rattle.lists.specs.declared.Decision.{Decision}
-use Rattle.lists.specs.declared.Decision.TheVariants.{Black, Grey, White, None}
+use Rattle.lists.specs.declared.Decision.TheVariants.{Black, Grey, White, None as Unlisted}
 use Rattle.lists.specs.Lists.{list_decision}
 use Rattle.circuits.specs.Circuits.{id_at}
 use Rattle.ports.specs.Transactions.{taken_from}
@@ -52,11 +50,11 @@ unfoldable pub by_list : List ℕ → List ℕ → Card → ℕ → Flow → ℕ
 by_list ids channels card p f k White = white_of channels card p k
 by_list ids channels card p f k Grey = grey_of ids card p f
 by_list ids channels card p f k Black = keeps card 3
-by_list ids channels card p f k None = keeps card 3
+by_list ids channels card p f k Unlisted = keeps card 3
 
-unfoldable pub join_row : List ℕ → List ℕ → List ℕ → Card → ℕ → Flow → Found → Outcome
-join_row ids channels entries card p f Nothing = keeps card 9
-join_row ids channels entries card p f (At k) =
+unfoldable pub join_row : List ℕ → List ℕ → List ℕ → Card → ℕ → Flow → Option ℕ → Outcome
+join_row ids channels entries card p f None = keeps card 9
+join_row ids channels entries card p f (Some k) =
     cond (is_active card.pool p k) (keeps card 1) (by_list ids channels card p f k (list_decision entries card.head.entry_count f))
 
 -- space: how many octets the lent reply buffer has

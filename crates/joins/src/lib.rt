@@ -1,7 +1,7 @@
 #![tactic(auto)]
 
 // The host's calls that may write a message: join and ask.
-ghost use Rattle.std.specs.Prelude.{◌≡◌, List, ℕ, ◌≤◌, ◌<◌, length};
+ghost use Rattle.std.specs.Prelude.{◌≡◌, List, ℕ, ◌≤◌, ◌<◌, length, Some};
 ghost use Rattle.pool.specs.Pool.{pool_of, Whole};
 ghost use Rattle.card.specs.Cards.{Card};
 ghost use Rattle.card.specs.Parts.{ComesTo};
@@ -13,7 +13,6 @@ use flows::Flow;
 use lists::Decision;
 use pool::Pool;
 use ports::Change;
-use rows::Found;
 
 // On the parts of a card that it reads and writes: the maps become those of the card afterwards.
 pub fn join_in(
@@ -47,8 +46,8 @@ pub fn join_in(
     }
     let found = channels::channel_of(channels, terms.head.channel_count, f);
     match found {
-        Found::Nothing => unchanged(terms, 9),
-        Found::At(k) => join_channel(
+        None => unchanged(terms, 9),
+        Some(k) => join_channel(
             owner, channel, charged, accounting, ids, channels, entries, terms, p as u8, f, k,
             reply,
         ),
@@ -71,7 +70,7 @@ fn join_channel(
 ) -> Effect
     requires whole { Whole (pool_of owner.old channel.old charged.old accounting.old) }
     requires past { (4608 ≤ length reply.old) × (p < 64) }
-    ensures { ComesTo (λ card. join_row ids.now channels.now entries.now card p f (Found.At k)) p terms (pool_of owner.old channel.old charged.old accounting.old) (pool_of owner.new channel.new charged.new accounting.new) result reply.old reply.new }
+    ensures { ComesTo (λ card. join_row ids.now channels.now entries.now card p f (Some k)) p terms (pool_of owner.old channel.old charged.old accounting.old) (pool_of owner.new channel.new charged.new accounting.new) result reply.old reply.new }
 {
     if pool::is_active(owner, channel, p, k) {
         return unchanged(terms, 1);

@@ -1,10 +1,8 @@
 -- A port's active flows in order of family, group, source (none first): what a host reads, and what a Multicast Flow Query lists.
 -- Flows are named by the rows of their channels. Assumes nothing: these are definitions.
-use Rattle.std.specs.Prelude.{ℕ, ◌≡◌, Bool, false, cond, List, [], ◌∷◌, take}
+use Rattle.std.specs.Prelude.{ℕ, ◌≡◌, Bool, false, cond, List, [], ◌∷◌, take, Option, Some, None}
 use Rattle.flows.specs.declared.Flow.{Flow}
 use Rattle.flows.specs.Flows.{flow_before}
-use Rattle.rows.specs.declared.Found.{Found}
-use Rattle.rows.specs.declared.Found.TheVariants.{At, Nothing}
 use Rattle.channels.specs.Channels.{channel_at, channel_of}
 use Rattle.sums.specs.Sums.{sum_by}
 use Rattle.pool.specs.declared.Pool.{Pool}
@@ -48,9 +46,9 @@ rows_in_order channels pool p = in_order (row_before channels) (take 16 (rows_of
 unfoldable pub flows_at : List ℕ → Card → ℕ → List ℕ
 flows_at channels card p = cond (has_port card p) (rows_in_order channels card.pool p) []
 
-unfoldable pub active_row : Pool → ℕ → Found → Bool
-active_row pool p Nothing = false
-active_row pool p (At k) = is_active pool p k
+unfoldable pub active_row : Pool → ℕ → Option ℕ → Bool
+active_row pool p None = false
+active_row pool p (Some k) = is_active pool p k
 
 -- the flow is active on the port
 unfoldable pub active_at : List ℕ → Card → ℕ → Flow → Bool

@@ -7,6 +7,7 @@
 --     answer-taken, ..           by type and Result
 --     verdict_requested, of_144, ..   a request, by what the table gives and by type
 -- Assumes nothing.
+use Rattle.std.specs.Prelude.{Option, Some, None}
 use mathlib.Core.Path.{◌≡◌, refl, sym, ap, subst, ◌∙◌}
 use mathlib.Core.Bool.{Bool, true, false, cond}
 use mathlib.Core.List.{List, [], ◌∷◌}
@@ -17,13 +18,10 @@ use lib.Dec.{eqb, ltb, leb}
 use borrow.Author.Tests.{leb-true}
 use Rattle.octets.proofs.Tests.{each}
 use Rattle.header.specs.declared.Header.{Header}
-use Rattle.header.specs.declared.Head.TheVariants.{Unusable, Usable}
 use Rattle.header.specs.Header.{size_ok, usable, header_in, head_in}
 use Rattle.items.specs.Items.{items_of, first_of}
 use Rattle.fields.specs.declared.Request.{Request}
 use Rattle.fields.specs.Fields.{request_in}
-use Rattle.rows.specs.declared.Found.{Found}
-use Rattle.rows.specs.declared.Found.TheVariants.{At, Nothing}
 use Rattle.circuits.specs.Circuits.{port_of}
 use Rattle.circuits.proofs.Circuits.{port_found}
 use Rattle.pool.specs.declared.Pool.{Pool}
@@ -52,15 +50,15 @@ module _ (m : List ℕ) (size : size_ok m ≡ true) where
       let h = leb-true (length m) 4096 (each (leb 16 (length m) ∷ leb (length m) 4096 ∷ []) size).1.0 in
       simp length-drop (omega arith)
 
-by-usable : (m : List ℕ) (b : Bool) → usable m ≡ b → head_in m ≡ cond b (Usable (header_in m)) Unusable
+by-usable : (m : List ℕ) (b : Bool) → usable m ≡ b → head_in m ≡ cond b (Some (header_in m)) None
 unfolding head_in
-by-usable m b e = ap (λ (x : Bool). cond x (Usable (header_in m)) Unusable) e
+by-usable m b e = ap (λ (x : Bool). cond x (Some (header_in m)) None) e
 
 -- ---- the port that a message is about: it is looked for where size and header are right
-most_named : (r : Found) → ((p : ℕ) → r ≡ At p → p < 64) → number_of r ≤ 64
+most_named : (r : Option ℕ) → ((p : ℕ) → r ≡ Some p → p < 64) → number_of r ≤ 64
 unfolding number_of
-most_named Nothing small = omega arith
-most_named (At p) small = omega (arith, small p refl)
+most_named None small = omega arith
+most_named (Some p) small = omega (arith, small p refl)
 
 module _ (ids : List ℕ) (count : ℕ) (m : List ℕ) where
   pub named_size : size_ok m ≡ false → 65 ≡ named_in ids count m
@@ -68,11 +66,11 @@ module _ (ids : List ℕ) (count : ℕ) (m : List ℕ) where
   named_size s = rw s
 
   module _ (size : size_ok m ≡ true) where
-    pub named_unusable : head_in m ≡ Unusable → 65 ≡ named_in ids count m
+    pub named_unusable : head_in m ≡ None → 65 ≡ named_in ids count m
     unfolding named_in named_by
     named_unusable e = rw (size, e)
 
-    pub named_usable : {h : Header} → head_in m ≡ Usable h → port_named ids count (drop 16 m) ≡ named_in ids count m
+    pub named_usable : {h : Header} → head_in m ≡ Some h → port_named ids count (drop 16 m) ≡ named_in ids count m
     unfolding named_in named_by
     named_usable e = rw (size, e)
 
@@ -81,10 +79,10 @@ module _ (ids : List ℕ) (count : ℕ) (m : List ℕ) where
   named_most = most_named (port_of ids count (id_in (drop 16 m))) (λ p e. (port_found ids count (id_in (drop 16 m)) e).small)
 
   -- they are right where it is at most 64
-  pub right_by : {p : ℕ} → p ≡ named_in ids count m → p ≤ 64 → (size_ok m ≡ true) × (head_in m ≡ Usable (header_in m))
+  pub right_by : {p : ℕ} → p ≡ named_in ids count m → p ≤ 64 → (size_ok m ≡ true) × (head_in m ≡ Some (header_in m))
   right_by {p} e l = go (size_ok m) refl (usable m) refl
     where
-      go : (b : Bool) → size_ok m ≡ b → (u : Bool) → usable m ≡ u → (size_ok m ≡ true) × (head_in m ≡ Usable (header_in m))
+      go : (b : Bool) → size_ok m ≡ b → (u : Bool) → usable m ≡ u → (size_ok m ≡ true) × (head_in m ≡ Some (header_in m))
       go true s true u = (s, by-usable m true u)
       go true s false u = absurd (omega (arith, e, named_unusable s (by-usable m false u)))
       go false s u v = absurd (omega (arith, e, named_size s))
@@ -99,7 +97,7 @@ module _ (ids channels : List ℕ) (card : Card) (m : List ℕ) (space : ℕ) wh
   no_room t = rw t
 
   module _ (full : ltb space 4608 ≡ false) where
-    pub usable_is : {h : Header} → size_ok m ≡ true → head_in m ≡ Usable h → by_result ids channels card h (drop 16 m) ≡ comes
+    pub usable_is : {h : Header} → size_ok m ≡ true → head_in m ≡ Some h → by_result ids channels card h (drop 16 m) ≡ comes
     unfolding received_of by_head
     usable_is size e = rw (full, size, e)
 
@@ -107,7 +105,7 @@ module _ (ids channels : List ℕ) (card : Card) (m : List ℕ) (space : ℕ) wh
     unfolding received_of
     bad_size t = rw (full, t)
 
-    bad_header : size_ok m ≡ true → head_in m ≡ Unusable → keeps card 15 ≡ comes
+    bad_header : size_ok m ≡ true → head_in m ≡ None → keeps card 15 ≡ comes
     unfolding received_of by_head
     bad_header size e = rw (full, size, e)
 

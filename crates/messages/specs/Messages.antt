@@ -1,9 +1,7 @@
 -- What a message m that is handed in comes to (CARD.md, "A message, check by check"). Assumes nothing: these are
 -- definitions.
-use Rattle.std.specs.Prelude.{ℕ, Bool, cond, ◌&&◌, ◌||◌, List, drop, eqb, ltb}
+use Rattle.std.specs.Prelude.{ℕ, Bool, cond, ◌&&◌, ◌||◌, List, drop, eqb, ltb, Option, None, Some}
 use Rattle.header.specs.declared.Header.{Header}
-use Rattle.header.specs.declared.Head.{Head}
-use Rattle.header.specs.declared.Head.TheVariants.{Unusable, Usable}
 use Rattle.header.specs.Header.{size_ok, head_in}
 use Rattle.items.specs.Items.{items_of, first_of}
 use Rattle.fields.specs.Fields.{allocation_in, request_in}
@@ -55,9 +53,9 @@ by_result ids channels card h s =
     (cond (is_notice h) (keeps card 0)
     (requested ids channels card h s (table_of ids card h s))))
 
-unfoldable pub by_head : List ℕ → List ℕ → Card → List ℕ → Head → Outcome
-by_head ids channels card m Unusable = keeps card 15
-by_head ids channels card m (Usable h) = by_result ids channels card h (drop 16 m)
+unfoldable pub by_head : List ℕ → List ℕ → Card → List ℕ → Option Header → Outcome
+by_head ids channels card m None = keeps card 15
+by_head ids channels card m (Some h) = by_result ids channels card h (drop 16 m)
 
 -- "Number 13; then 15 for size, 0x880C, either length, version or submessage." space: how many octets the lent reply buffer has
 unfoldable pub received_of : List ℕ → List ℕ → Card → List ℕ → ℕ → Outcome
@@ -67,9 +65,9 @@ received_of ids channels card m space =
 
 -- the one port whose record and flows a message can change: the one that its Target names, or 64 where it is no port's;
 -- 65 of a message whose size or header is wrong
-unfoldable pub named_by : List ℕ → ℕ → List ℕ → Head → ℕ
-named_by ids count m Unusable = 65
-named_by ids count m (Usable h) = port_named ids count (drop 16 m)
+unfoldable pub named_by : List ℕ → ℕ → List ℕ → Option Header → ℕ
+named_by ids count m None = 65
+named_by ids count m (Some h) = port_named ids count (drop 16 m)
 
 unfoldable pub named_in : List ℕ → ℕ → List ℕ → ℕ
 named_in ids count m = cond (size_ok m) (named_by ids count m (head_in m)) 65

@@ -10,7 +10,7 @@ ghost use Rattle.messages.specs.Messages.{is_answer, is_notice, by_type, request
 use card::{Effect, Terms, unchanged};
 use checks::Verdict;
 use fields::{ALLOCATION, REQUEST};
-use header::{Head, Header};
+use header::Header;
 use pool::Pool;
 use ports::Change;
 
@@ -24,8 +24,8 @@ pub fn port_named(ids: &[u8; 4096], port_count: usize, octets: &[u8]) -> usize
     }
     let head = header::read_header(octets);
     match head {
-        Head::Unusable => 65,
-        Head::Usable(_) => checks::port_named(ids, port_count, &octets[16..]),
+        None => 65,
+        Some(_) => checks::port_named(ids, port_count, &octets[16..]),
     }
 }
 

@@ -11,6 +11,7 @@
 --     pool-accounted, pool-accounted_other, charges-kept      accounting alone is set, and only of that flow
 --     pool-fresh                           no port has a flow
 -- Assumes nothing.
+use Rattle.std.specs.Prelude.{Option, Some, None}
 use Prim.Native.Nat.{ℕ, ◌+◌, ◌≤◌, ◌<◌}
 use mathlib.Core.Path.{◌≡◌, refl, sym, ap, ◌∙◌}
 use mathlib.Core.Bool.{Bool, true, false, cond, ◌&&◌, false≢true}
@@ -22,8 +23,6 @@ use lib.Seq.{get_or-set_same, get_or-set_other}
 use borrow.Author.Tests.{eqb-true, eqb-false, eq-eqb, ne_eqb, ltb-true, ltb-false}
 use Rattle.channels.specs.Channels.{rate_at}
 use Rattle.rows.specs.Rows.{first_row}
-use Rattle.rows.specs.declared.Found.{Found}
-use Rattle.rows.specs.declared.Found.TheVariants.{At, Nothing}
 use Rattle.rows.proofs.Rows.{FoundAt, found_at, found_none}
 use Rattle.sums.proofs.Sums.{sum_to_ext, sum_to_mono, sum_to-add, sum_to_change, sum_to-none}
 use Rattle.sums.proofs.Maps.{map_to-get_or}
@@ -73,9 +72,9 @@ module _ (owner : List ℕ) where
   unfolding free_in
   free-by {C} f g = go (first_row 512 (is_of owner free)) refl
     where
-      go : (r : Found) → first_row 512 (is_of owner free) ≡ r → C
-      go (At i) e = f i (ap or_size e) (found_at (is_of owner free) 512 e)
-      go Nothing e = g (ap or_size e) (found_none (is_of owner free) 512 e)
+      go : (r : Option ℕ) → first_row 512 (is_of owner free) ≡ r → C
+      go (Some i) e = f i (ap or_size e) (found_at (is_of owner free) 512 e)
+      go None e = g (ap or_size e) (found_none (is_of owner free) 512 e)
 
   pub free-at : free_in owner < 512 → get_or owner (free_in owner) 0 ≡ free
   free-at h =

@@ -2,6 +2,7 @@
 --     held_start, held-here, held_on, held_skip, held_end    the beginning of the search, one turn, and its end
 --     state_active                                           the flow is active where a record is found
 -- Assumes nothing.
+use Rattle.std.specs.Prelude.{Option, Some, None}
 use Prim.Native.Nat.{ℕ, ◌+◌, ◌-◌, ◌≤◌, ◌<◌}
 use mathlib.Core.Path.{◌≡◌, refl, sym, ap, ◌∙◌}
 use mathlib.Core.Bool.{Bool, true, false, cond, ◌&&◌, false≢true}
@@ -12,8 +13,6 @@ use lib.Dec.{eqb, ltb}
 use borrow.Author.Tests.{eq-eqb, ne_eqb, eqb-true, lt-ltb, le-ltb}
 use Rattle.octets.proofs.Tests.{both}
 use Rattle.rows.specs.Rows.{first_from, first_row}
-use Rattle.rows.specs.declared.Found.{Found}
-use Rattle.rows.specs.declared.Found.TheVariants.{At, Nothing}
 use Rattle.rows.proofs.Rows.{first-start, first-here, first_on, first_end, found_at, found_none}
 use Rattle.rows.proofs.Nexts.{kept-over}
 use Rattle.sums.proofs.Sums.{sum_to-none}
@@ -26,7 +25,7 @@ module _ (owner channel : List ℕ) (p k : ℕ) where
   test = is_held owner channel p k
 
   -- what is found among the records from i on
-  abbrev pub held_from : ℕ → Found
+  abbrev pub held_from : ℕ → Option ℕ
   held_from i = first_from i (512 - i) test
 
   pub held_start : first_row 512 test ≡ held_from 0
@@ -39,17 +38,17 @@ module _ (owner channel : List ℕ) (p k : ℕ) where
     held_other : get_or owner i 0 ≡ p → (get_or channel i 0 ≡ k → ⊥) → test i ≡ false
     held_other o h = simp (eq-eqb (get_or owner i 0) p o, ne_eqb (get_or channel i 0) k h)
 
-    pub held-here : {r : Found} → r ≡ held_from i → i < 512 → get_or owner i 0 ≡ p → get_or channel i 0 ≡ k → At i ≡ r
+    pub held-here : {r : Option ℕ} → r ≡ held_from i → i < 512 → get_or owner i 0 ≡ p → get_or channel i 0 ≡ k → Some i ≡ r
     held-here inv l o h = first-here test i 512 inv l (simp (eq-eqb (get_or owner i 0) p o, eq-eqb (get_or channel i 0) k h))
 
-    pub held_on : {r : Found} → r ≡ held_from i → i < 512 → get_or owner i 0 ≡ p → (get_or channel i 0 ≡ k → ⊥) → r ≡ held_from (i + 1)
+    pub held_on : {r : Option ℕ} → r ≡ held_from i → i < 512 → get_or owner i 0 ≡ p → (get_or channel i 0 ≡ k → ⊥) → r ≡ held_from (i + 1)
     held_on inv l o h = first_on test i 512 inv l (held_other o h)
 
-    pub held_end : {r : Found} → r ≡ held_from i → 512 ≤ i → Nothing ≡ r
+    pub held_end : {r : Option ℕ} → r ≡ held_from i → 512 ≤ i → None ≡ r
     held_end inv m = first_end test i 512 inv m
 
   -- on to the port's next record
-  pub held_skip : (i : ℕ) {n : ℕ} {r : Found} → r ≡ held_from i → Next owner p i n → r ≡ held_from n
+  pub held_skip : (i : ℕ) {n : ℕ} {r : Option ℕ} → r ≡ held_from i → Next owner p i n → r ≡ held_from n
   held_skip i {n} inv x =
       inv ∙ kept-over held_from i n x.reached
       (λ j a b. first_on test j 512 refl (omega (arith, x.most)) (held-not j (x.others j a b)))
@@ -80,6 +79,6 @@ module _ (owner channel : List ℕ) (p k : ℕ) where
   unfolding state_in
   state_active charged accounting = go (first_row 512 test) refl
     where
-      go : (r : Found) → first_row 512 test ≡ r → (state_at charged accounting r).active ≡ active_in owner channel p k
-      go (At i) e = let f = found_at test 512 e in some i f.below f.passes
-      go Nothing e = nothing (found_none test 512 e)
+      go : (r : Option ℕ) → first_row 512 test ≡ r → (state_at charged accounting r).active ≡ active_in owner channel p k
+      go (Some i) e = let f = found_at test 512 e in some i f.below f.passes
+      go None e = nothing (found_none test 512 e)

@@ -1,12 +1,10 @@
 -- The 512 flow records (CARD.md, "Records and room"). Assumes nothing: these are definitions.
 -- A figure that a function reads off lent maps is defined on the maps (`count_in owner`), and of a pool it is that of
 -- its maps.
-use Rattle.std.specs.Prelude.{ℕ, ◌-◌, ◌≡◌, Bool, true, false, cond, ◌&&◌, ◌||◌, List, [], length, get_or, set, take, replicate, eqb, ltb}
+use Rattle.std.specs.Prelude.{ℕ, ◌-◌, ◌≡◌, Bool, true, false, cond, ◌&&◌, ◌||◌, List, [], length, get_or, set, take, replicate, eqb, ltb, Option, Some, None}
 use Rattle.flows.specs.declared.Flow.{Flow}
 use Rattle.channels.specs.Channels.{rate_at, is_row}
 use Rattle.rows.specs.Rows.{first_row, NextWith}
-use Rattle.rows.specs.declared.Found.{Found}
-use Rattle.rows.specs.declared.Found.TheVariants.{At, Nothing}
 use Rattle.sums.specs.Sums.{sum_to, map_to, pick_to}
 use Rattle.octets.specs.Writing.{over}
 use Rattle.pool.specs.declared.Pool.{Pool}
@@ -77,9 +75,9 @@ room_for n e = ltb n 4 || (ltb n 16 && ltb e 256)
 abbrev pub free : ℕ
 free = 255
 
-abbrev pub or_size : Found → ℕ
-or_size (At i) = i
-or_size Nothing = 512
+abbrev pub or_size : Option ℕ → ℕ
+or_size (Some i) = i
+or_size None = 512
 
 -- the first free record, or 512 where none is. Which free record is taken is the program's choice; `pool-filled` and
 -- `pool-filled_other` (proofs/Pools.antt) say what every choice has in common
@@ -107,9 +105,9 @@ abbrev pub no_state : FlowState
 no_state = record { active = false; charged = false; accounting = 0 }
 
 -- what a record says of its flow
-abbrev pub state_at : List Bool → List ℕ → Found → FlowState
-state_at charged accounting (At i) = record { active = true; charged = get_or charged i false; accounting = get_or accounting i 0 }
-state_at charged accounting Nothing = no_state
+abbrev pub state_at : List Bool → List ℕ → Option ℕ → FlowState
+state_at charged accounting (Some i) = record { active = true; charged = get_or charged i false; accounting = get_or accounting i 0 }
+state_at charged accounting None = no_state
 
 -- what the port's flow of channel k has: what its first record of it says. On cards that calls reach there is one at most
 unfoldable pub state_in : List ℕ → List ℕ → List Bool → List ℕ → ℕ → ℕ → FlowState

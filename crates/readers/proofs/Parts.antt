@@ -2,13 +2,13 @@
 --     is_port_lem, not_port                whether p is a port's number
 --     state_of_row, active_of_row      of a port, what the row of the flow says
 -- Assumes nothing.
+use Rattle.std.specs.Prelude.{Option}
 use Prim.Native.Nat.{ℕ}
 use mathlib.Core.Path.{◌≡◌, sym, ap, ◌∙◌}
 use mathlib.Core.Bool.{Bool, true, false}
 use mathlib.Core.List.{List}
 use Rattle.octets.proofs.Tests.{taken}
 use Rattle.flows.specs.declared.Flow.{Flow}
-use Rattle.rows.specs.declared.Found.{Found}
 use Rattle.channels.specs.Channels.{channel_of}
 use Rattle.card.specs.Cards.{Card, is_port, has_port}
 use Rattle.listing.specs.Listing.{active_row, active_at}
@@ -22,7 +22,7 @@ module _ (card : Card) (count p : ℕ) {b : Bool} (same : card.head.port_count �
   pub not_port : b ≡ false → has_port card p ≡ false
   not_port h = ap (λ (n : ℕ). is_port n p) same ∙ sym test ∙ h
 
-module _ (channels : List ℕ) (card : Card) (n p : ℕ) (f : Flow) (rows : card.head.channel_count ≡ n) (h : has_port card p ≡ true) (found : Found) (e : found ≡ channel_of channels n f) where
+module _ (channels : List ℕ) (card : Card) (n p : ℕ) (f : Flow) (rows : card.head.channel_count ≡ n) (h : has_port card p ≡ true) (found : Option ℕ) (e : found ≡ channel_of channels n f) where
   row_is : found ≡ channel_of channels card.head.channel_count f
   row_is = e ∙ ap (λ (m : ℕ). channel_of channels m f) (sym rows)
 

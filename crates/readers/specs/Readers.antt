@@ -1,9 +1,7 @@
 -- What a host may read of a card that lies in its memory: a reader is lent the parts that it looks at. Of a number that
 -- is no port's: no open request, no flow. Assumes nothing: these are definitions.
-use Rattle.std.specs.Prelude.{ℕ, ◌<◌, ◌≡◌, false, true, cond, List}
+use Rattle.std.specs.Prelude.{ℕ, ◌<◌, ◌≡◌, false, true, cond, List, Option, Some, None}
 use Rattle.flows.specs.declared.Flow.{Flow}
-use Rattle.rows.specs.declared.Found.{Found}
-use Rattle.rows.specs.declared.Found.TheVariants.{At, Nothing}
 use Rattle.channels.specs.Channels.{channel_of}
 use Rattle.ports.specs.declared.Port.{Port}
 use Rattle.pool.specs.declared.Pool.{Pool}
@@ -37,9 +35,9 @@ open_request_of card p = cond (has_port card p) (open_request_in (port_at card p
 unfoldable pub row_state_at : Card → ℕ → ℕ → FlowState
 row_state_at card p k = cond (has_port card p) (state_of card.pool p k) no_state
 
-unfoldable pub state_row : Pool → ℕ → Found → FlowState
-state_row pool p Nothing = no_state
-state_row pool p (At k) = state_of pool p k
+unfoldable pub state_row : Pool → ℕ → Option ℕ → FlowState
+state_row pool p None = no_state
+state_row pool p (Some k) = state_of pool p k
 
 -- what the flow has on the port
 unfoldable pub flow_state_at : List ℕ → Card → ℕ → Flow → FlowState

@@ -12,7 +12,6 @@ ghost use Rattle.readers.specs.Readers.{HasRecord, open_request_in, open_request
 use flows::Flow;
 use pool::{FlowState, Rows};
 use ports::Port;
-use rows::Found;
 
 // ---- of a port's record
 
@@ -160,12 +159,12 @@ pub fn flow_state<'a>(
     }
     let found = channels::channel_of(channels, channel_count, f);
     match found {
-        Found::Nothing => FlowState {
+        None => FlowState {
             active: false,
             charged: false,
             accounting: 0,
         },
-        Found::At(k) => pool::state_of(owner, channel, charged, accounting, p as u8, k),
+        Some(k) => pool::state_of(owner, channel, charged, accounting, p as u8, k),
     }
 }
 
@@ -186,7 +185,7 @@ pub fn is_active<'a>(
     }
     let found = channels::channel_of(channels, channel_count, f);
     match found {
-        Found::Nothing => false,
-        Found::At(k) => pool::is_active(owner, channel, p as u8, k),
+        None => false,
+        Some(k) => pool::is_active(owner, channel, p as u8, k),
     }
 }

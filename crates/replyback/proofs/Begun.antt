@@ -1,4 +1,5 @@
 -- What join and ask come to: nothing is written, or the message that is begun. With the answers to messages: every call. Assumes nothing.
+use Rattle.std.specs.Prelude.{Option, Some, None}
 use mathlib.Core.Path.{◌≡◌, refl}
 use mathlib.Core.List.{List}
 use mathlib.Core.Bool.{true}
@@ -8,11 +9,9 @@ use lib.ListN.{length}
 use lib.Dec.{eqb, ltb}
 use Rattle.flows.specs.declared.Flow.{Flow}
 use Rattle.flows.specs.Flows.{good_flow}
-use Rattle.rows.specs.declared.Found.{Found}
-use Rattle.rows.specs.declared.Found.TheVariants.{At, Nothing}
 use Rattle.channels.specs.Channels.{channel_of}
 use Rattle.lists.specs.declared.Decision.{Decision}
-use Rattle.lists.specs.declared.Decision.TheVariants.{Black, Grey, White, None}
+use Rattle.lists.specs.declared.Decision.TheVariants.{Black, Grey, White, None as Unlisted}
 use Rattle.lists.specs.Lists.{list_decision}
 use Rattle.circuits.specs.Circuits.{id_at}
 use Rattle.circuits.proofs.Circuits.{id_short}
@@ -49,12 +48,12 @@ module _ (ids : List ℕ) (card : Card) (p : ℕ) (ht : card.head.counter.number
           omega (arith, (sizes.short (id_at ids p) (id_short ids p)).admission card.head.counter.number f),
         )
     list_begins good k Black = silent refl
-    list_begins good k None = silent refl
+    list_begins good k Unlisted = silent refl
 
-    row-begins : good_flow f ≡ true → (x : Found) → ByJoin (join_row ids channels entries card p f x)
+    row-begins : good_flow f ≡ true → (x : Option ℕ) → ByJoin (join_row ids channels entries card p f x)
     unfolding join_row
-    row-begins good Nothing = silent refl
-    row-begins good (At k) =
+    row-begins good None = silent refl
+    row-begins good (Some k) =
         by_cond ByJoin (is_active card.pool p k) _ _ (λ _. silent refl) (λ _. list_begins good k (list_decision entries card.head.entry_count f))
 
     join_begins : (space : ℕ) → ByJoin (join_of ids channels entries card p f space)

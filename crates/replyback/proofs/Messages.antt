@@ -1,4 +1,5 @@
 -- What a message that is handed in comes to, by cases, check by check: no reply, or an answer. Assumes nothing.
+use Rattle.std.specs.Prelude.{Option, Some, None}
 use mathlib.Core.Path.{◌≡◌, refl, sym, ap, ◌∙◌}
 use mathlib.Core.Logic.{◌⊎◌, inl, inr, ⊎_elim}
 use mathlib.Core.List.{List, [], ◌∷◌, ◌++◌, append_assoc}
@@ -10,15 +11,12 @@ use lib.Dec.{eqb, ltb, leb}
 use borrow.Author.Tests.{eqb-true, eqb-false, leb-true}
 use Rattle.octets.proofs.Tests.{each}
 use Rattle.header.specs.declared.Header.{Header}
-use Rattle.header.specs.declared.Head.{Head}
 use Rattle.header.specs.Header.{size_ok, usable, header_in, head_in}
 use Rattle.tlv.specs.Depth.{depth_of, list_ok}
 use Rattle.items.specs.Items.{Item, items_of, first_of}
 use Rattle.fields.specs.Fields.{circuit_ids}
 use Rattle.fields.specs.declared.Request.{Request}
 use Rattle.replies.specs.Replies.{reply_header, amount_reply}
-use Rattle.rows.specs.declared.Found.{Found}
-use Rattle.rows.specs.declared.Found.TheVariants.{At, Nothing}
 use Rattle.circuits.specs.Circuits.{id_at, port_of}
 use Rattle.circuits.proofs.Circuits.{id_short, port_found}
 use Rattle.ports.specs.Ports.{answers, within}
@@ -176,11 +174,11 @@ module _ (m : List ℕ) (octets : Octets m) (lo : 16 ≤ length m) (hi : length 
         row 0x55 ((kinds_back.rows h s transaction-fits).fault i is ok e).says (omega (arith, (sizes.rows h s).fault))
 
     port_answers : list_ok 3 false s ≡ true → circuit_ids (first_of 0x1000 (items_of s)) ≡ 1
-        → (x : Found) → port_of ids card.head.port_count (id_in s) ≡ x → Row (located card x)
+        → (x : Option ℕ) → port_of ids card.head.port_count (id_in s) ≡ x → Row (located card x)
     unfolding located Row requested
-    port_answers ok one Nothing e =
+    port_answers ok one None e =
         row 0x500 (kinds_back.rows h s transaction-fits).unknown.refuses.says (sizes.rows h s).unknown
-    port_answers ok one (At p) e =
+    port_answers ok one (Some p) e =
         by_cond Row (port_at card p).up _ _ (λ _. type_answers ids channels p ok one (port_found ids card.head.port_count (id_in s) e).is card)
         (λ _. row 0x6 (kinds_back.rows h s transaction-fits).down.refuses.says (sizes.rows h s).down)
 
@@ -221,7 +219,7 @@ module _ (m : List ℕ) (octets : Octets m) (lo : 16 ≤ length m) (hi : length 
     head_answers : Replies m (by_head ids channels card m (head_in m))
     unfolding head_in by_head
     head_answers =
-        by_cond (λ (x : Head). Replies m (by_head ids channels card m x)) (usable m) _ _ (λ _. result_answers) (λ _. silent refl)
+        by_cond (λ (x : Option Header). Replies m (by_head ids channels card m x)) (usable m) _ _ (λ _. result_answers) (λ _. silent refl)
 
 pub message_answers : (ids channels : List ℕ) (card : Card) (m : List ℕ) (space : ℕ) → Octets m
     → Replies m (received_of ids channels card m space)

@@ -1,4 +1,5 @@
 -- What is known of what follows past the table: a command's result code fits its field, and a port's rows are at most 16. Assumes nothing.
+use Rattle.std.specs.Prelude.{Option, Some, None}
 use mathlib.Core.Path.{◌≡◌, refl, ap}
 use mathlib.Core.List.{List, [], ◌∷◌}
 use mathlib.Core.Bool.{Bool, true, false, cond}
@@ -9,8 +10,6 @@ use lib.Dec.{eqb}
 use Rattle.fields.specs.Fields.{command_in}
 use Rattle.flows.specs.Flows.{good_flow}
 use Rattle.flow_octets.specs.FlowOctets.{flow_formed, flow_named}
-use Rattle.rows.specs.declared.Found.{Found}
-use Rattle.rows.specs.declared.Found.TheVariants.{At, Nothing}
 use Rattle.channels.specs.Channels.{channel_of}
 use Rattle.pool.specs.declared.Pool.{Pool}
 use Rattle.flows.specs.declared.Flow.{Flow}
@@ -28,10 +27,10 @@ abbrev Small : Ran → Type 0
 Small r = r.code < 4096
 
 module _ (channels : List ℕ) (card : Card) (p : ℕ) where
-  add-code : (accounting : ℕ) (x : Found) → (add_row channels card p accounting x).code < 4096
+  add-code : (accounting : ℕ) (x : Option ℕ) → (add_row channels card p accounting x).code < 4096
   unfolding add_row add_new
-  add-code accounting Nothing = omega arith
-  add-code accounting (At k) =
+  add-code accounting None = omega arith
+  add-code accounting (Some k) =
       by_cond Small (is_active card.pool p k) _ _ (λ _. omega arith)
       (λ _. by_cond Small (eqb (admit_number channels card card.head.add_cac p k) 0) _ _ (λ _. omega arith) (λ _. omega arith))
 

@@ -5,6 +5,7 @@
 --     next-stands, next-same            it has come to a row with the word or to the end; other words that are the same from `from` on
 --     first-over                        a search for the first row that passes a test: over a stretch of rows that fail
 -- Assumes nothing.
+use Rattle.std.specs.Prelude.{Option}
 use Prim.Native.Nat.{ℕ, zero, suc, ◌+◌, ◌-◌, ◌≤◌, ◌<◌}
 use mathlib.Core.Path.{◌≡◌, refl, sym, ap, ◌∙◌}
 use mathlib.Core.Bool.{Bool, true, false, not, ◌&&◌, false≢true}
@@ -15,7 +16,6 @@ use native.Mathlib.Omega.{arith}
 use lib.Dec.{eqb, ltb}
 use borrow.Author.Tests.{eq-eqb, ltb-true, ltb-false}
 use Rattle.rows.specs.Rows.{first_from, all_of, none_of, NextWith}
-use Rattle.rows.specs.declared.Found.{Found}
 use Rattle.rows.proofs.Rows.{first_on, all_off, none-at}
 
 pub kept-over : {A : Type 0} (g : ℕ → A) (a b : ℕ) → a ≤ b → ((i : ℕ) → a ≤ i → i < b → g i ≡ g (i + 1)) → g a ≡ g b
@@ -26,7 +26,7 @@ kept-over g a (suc b) h e =
     (λ (l : a < suc b). kept-over g a b (le_of_suc-le-suc l) (λ i m n. e i m (omega arith)) ∙ e b (le_of_suc-le-suc l) (omega arith) ∙ ap g (add-one b))
     (eq-or-lt_of_le h)
 
-pub first-over : (test : ℕ → Bool) (i n j : ℕ) {r : Found} → r ≡ first_from i (n - i) test → i ≤ j → j ≤ n → ((k : ℕ) → i ≤ k → k < j → test k ≡ false) → r ≡ first_from j (n - j) test
+pub first-over : (test : ℕ → Bool) (i n j : ℕ) {r : Option ℕ} → r ≡ first_from i (n - i) test → i ≤ j → j ≤ n → ((k : ℕ) → i ≤ k → k < j → test k ≡ false) → r ≡ first_from j (n - j) test
 first-over test i n j inv h l off =
     inv ∙ kept-over (λ (k : ℕ). first_from k (n - k) test) i j h (λ k a b. first_on test k n refl (omega arith) (off k a b))
 

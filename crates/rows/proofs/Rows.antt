@@ -6,6 +6,7 @@
 --     alone                             where each row is none of those before it, rows that are the same are one row
 --     rows-many, rows-off, rows_end, rows_at    a table of at most so many rows, each of which passes
 -- Assumes nothing.
+use Rattle.std.specs.Prelude.{is_none, Option, Some, None, is_some}
 use Prim.Native.Nat.{ℕ, zero, suc, ◌+◌, ◌-◌, ◌≤◌, ◌<◌}
 use mathlib.Core.Path.{◌≡◌, refl, sym, ap, ap₂, ◌∙◌}
 use mathlib.Core.Logic.{⊎_elim}
@@ -18,13 +19,11 @@ use lib.Dec.{leb, ltb}
 use borrow.Author.Tests.{not-true, ltb-true, ltb-false, le-leb, lt-leb, leb-true}
 use Rattle.octets.specs.Tests.{every}
 use Rattle.octets.proofs.Tests.{both, each, every-by, false_by}
-use Rattle.rows.specs.Rows.{first_from, first_row, all_of, none_of, rows_ok, is_nothing}
-use Rattle.rows.specs.declared.Found.{Found}
-use Rattle.rows.specs.declared.Found.TheVariants.{At, Nothing}
+use Rattle.rows.specs.Rows.{first_from, first_row, all_of, none_of, rows_ok}
 
 -- ---- a search that has passed the rows before i
-module _ (test : ℕ → Bool) (i n : ℕ) {r : Found} (inv : r ≡ first_from i (n - i) test) where
-  pub first-here : i < n → test i ≡ true → At i ≡ r
+module _ (test : ℕ → Bool) (i n : ℕ) {r : Option ℕ} (inv : r ≡ first_from i (n - i) test) where
+  pub first-here : i < n → test i ≡ true → Some i ≡ r
   unfolding first_from
   first-here h t = let e : n - i ≡ suc (n - (i + 1)) = omega arith in sym (inv ∙ ap (λ (k : ℕ). first_from i k test) e ∙ simp t)
 
@@ -32,7 +31,7 @@ module _ (test : ℕ → Bool) (i n : ℕ) {r : Found} (inv : r ≡ first_from i
   unfolding first_from
   first_on h t = let e : n - i ≡ suc (n - (i + 1)) = omega arith in inv ∙ ap (λ (k : ℕ). first_from i k test) e ∙ simp (t, add-one)
 
-  pub first_end : n ≤ i → Nothing ≡ r
+  pub first_end : n ≤ i → None ≡ r
   unfolding first_from
   first_end h = let e : n - i ≡ 0 = omega arith in sym (inv ∙ ap (λ (k : ℕ). first_from i k test) e)
 
@@ -54,10 +53,10 @@ pub record FoundAt (n : ℕ) (test : ℕ → Bool) (k : ℕ) : Type 0 where
   pub passes : test k ≡ true
   pub first : (j : ℕ) → j < k → test j ≡ false
 
-at_eq : (i k : ℕ) → At i ≡ At k → i ≡ k
+at_eq : (i k : ℕ) → Some i ≡ Some k → i ≡ k
 at_eq i k e = cc
 
-at_none : (k : ℕ) → At k ≡ Nothing → ⊥
+at_none : (k : ℕ) → Some k ≡ None → ⊥
 at_none k e = let z : ◌≡◌ {A = ℕ} 0 1 = cc in omega arith
 
 module _ (test : ℕ → Bool) where
@@ -65,12 +64,12 @@ module _ (test : ℕ → Bool) where
   abbrev From : ℕ → ℕ → ℕ → Type 0
   From i n k = (i ≤ k) × (k < i + n) × (test k ≡ true) × ((j : ℕ) → i ≤ j → j < k → test j ≡ false)
 
-  from_at : (i n k : ℕ) → first_from i n test ≡ At k → From i n k
+  from_at : (i n k : ℕ) → first_from i n test ≡ Some k → From i n k
   unfolding first_from
   from_at i zero k e = absurd (at_none k (sym e))
   from_at i (suc n) k e = go (test i) refl e (λ h. from_at (suc i) n k h)
     where
-      go : (b : Bool) → test i ≡ b → cond b (At i) (first_from (suc i) n test) ≡ At k → (first_from (suc i) n test ≡ At k → From (suc i) n k) → From i (suc n) k
+      go : (b : Bool) → test i ≡ b → cond b (Some i) (first_from (suc i) n test) ≡ Some k → (first_from (suc i) n test ≡ Some k → From (suc i) n k) → From i (suc n) k
       go true t e ih =
           let same : i ≡ k = at_eq i k e in
           (omega arith, omega arith, ap test (sym same) ∙ t, λ j p q. absurd (omega arith))
@@ -78,39 +77,39 @@ module _ (test : ℕ → Bool) where
           let f = ih e in
           (omega arith, omega arith, f.2, λ j p q. ⊎_elim (λ (s : i ≡ j). ap test (sym s) ∙ t) (λ (l : i < j). f.3 j l q) (eq-or-lt_of_le p))
 
-  from_none : (i n : ℕ) → first_from i n test ≡ Nothing → (j : ℕ) → i ≤ j → j < i + n → test j ≡ false
+  from_none : (i n : ℕ) → first_from i n test ≡ None → (j : ℕ) → i ≤ j → j < i + n → test j ≡ false
   unfolding first_from
   from_none i zero e j p q = absurd (omega arith)
   from_none i (suc n) e j p q = go (test i) refl e (λ h l. from_none (suc i) n h j l (omega arith))
     where
-      go : (b : Bool) → test i ≡ b → cond b (At i) (first_from (suc i) n test) ≡ Nothing → (first_from (suc i) n test ≡ Nothing → i < j → test j ≡ false) → test j ≡ false
+      go : (b : Bool) → test i ≡ b → cond b (Some i) (first_from (suc i) n test) ≡ None → (first_from (suc i) n test ≡ None → i < j → test j ≡ false) → test j ≡ false
       go true t e ih = absurd (at_none i e)
       go false t e ih = ⊎_elim (λ (s : i ≡ j). ap test (sym s) ∙ t) (λ (l : i < j). ih e l) (eq-or-lt_of_le p)
 
   module _ (n : ℕ) where
-    pub found_at : {k : ℕ} → first_row n test ≡ At k → FoundAt n test k
+    pub found_at : {k : ℕ} → first_row n test ≡ Some k → FoundAt n test k
     unfolding first_row
     found_at {k} e =
         let f = from_at 0 n k e in record { below = omega (arith, f.1); passes = f.2; first = λ j l. f.3 j (omega arith) l }
 
-    pub found_none : first_row n test ≡ Nothing → (j : ℕ) → j < n → test j ≡ false
+    pub found_none : first_row n test ≡ None → (j : ℕ) → j < n → test j ≡ false
     unfolding first_row
     found_none e j l = from_none 0 n e j (omega arith) (omega arith)
 
     -- a row that passes is found, or one before it
-    pub found_some : (k : ℕ) → k < n → test k ≡ true → first_row n test ≡ Nothing → ⊥
+    pub found_some : (k : ℕ) → k < n → test k ≡ true → first_row n test ≡ None → ⊥
     found_some k l t e = false≢true (sym (found_none e k l) ∙ t)
 
-    pub found_is : (k : ℕ) → FoundAt n test k → first_row n test ≡ At k
+    pub found_is : (k : ℕ) → FoundAt n test k → first_row n test ≡ Some k
     found_is k f = go (first_row n test) refl
       where
-        go : (r : Found) → first_row n test ≡ r → first_row n test ≡ At k
-        go Nothing e = absurd (found_some k f.below f.passes e)
-        go (At j) e =
+        go : (r : Option ℕ) → first_row n test ≡ r → first_row n test ≡ Some k
+        go None e = absurd (found_some k f.below f.passes e)
+        go (Some j) e =
             let g = found_at e in
             which j k
             (λ l. absurd (false≢true (sym (f.first j l) ∙ g.passes)))
-            (λ s. e ∙ ap At s)
+            (λ s. e ∙ ap Some s)
             (λ l. absurd (false≢true (sym (g.first k l) ∙ f.passes)))
 
 -- ---- all rows
@@ -140,13 +139,18 @@ unfolding none_of
 none-at n test e k l = not-true (test k) (all_at n (λ i. not (test i)) e k l)
 
 -- a search finds nothing where none passes
-pub nothing-none : (n : ℕ) (test : ℕ → Bool) → is_nothing (first_row n test) ≡ none_of n test
+-- the library's test that nothing is found, by what its contract says
+pub none-is : (o : Option ℕ) (r : Bool) → is_some o ≡ not r → r ≡ is_none o
+none-is o true e = ap not (sym e)
+none-is o false e = ap not (sym e)
+
+pub nothing-none : (n : ℕ) (test : ℕ → Bool) → is_none (first_row n test) ≡ none_of n test
 unfolding none_of
 nothing-none n test = go (first_row n test) refl
   where
-    go : (r : Found) → first_row n test ≡ r → is_nothing r ≡ all_of n (λ i. not (test i))
-    go Nothing e = sym (all_by n (λ i. not (test i)) (λ k l. ap not (found_none test n e k l)))
-    go (At k) e = let f = found_at test n e in all_off n (λ i. not (test i)) k f.below (ap not f.passes)
+    go : (r : Option ℕ) → first_row n test ≡ r → is_none r ≡ all_of n (λ i. not (test i))
+    go None e = sym (all_by n (λ i. not (test i)) (λ k l. ap not (found_none test n e k l)))
+    go (Some k) e = let f = found_at test n e in all_off n (λ i. not (test i)) k f.below (ap not f.passes)
 
 -- where each row is none of those before it, rows that are the same are one row
 pub alone : {A : Type 0} (row : ℕ → A) (same : A → A → Bool) → ((a : A) → same a a ≡ true) → (n : ℕ)

@@ -1,16 +1,14 @@
 -- Tests on the rows of a table, by their numbers. Assumes nothing: these are definitions.
-use Rattle.std.specs.Prelude.{ℕ, zero, suc, ◌≤◌, ◌<◌, ◌≡◌, Bool, true, false, cond, not, ◌&&◌, [], ◌∷◌, leb}
+use Rattle.std.specs.Prelude.{ℕ, zero, suc, ◌≤◌, ◌<◌, ◌≡◌, Bool, true, false, cond, not, ◌&&◌, [], ◌∷◌, leb, Option, Some, None}
 use Rattle.octets.specs.Tests.{every}
-use Rattle.rows.specs.declared.Found.{Found}
-use Rattle.rows.specs.declared.Found.TheVariants.{At, Nothing}
 
 -- the first of the n rows from i on that passes the test
-unfoldable pub first_from : ℕ → ℕ → (ℕ → Bool) → Found
-first_from i zero test = Nothing
-first_from i (suc n) test = cond (test i) (At i) (first_from (suc i) n test)
+unfoldable pub first_from : ℕ → ℕ → (ℕ → Bool) → Option ℕ
+first_from i zero test = None
+first_from i (suc n) test = cond (test i) (Some i) (first_from (suc i) n test)
 
 -- the first of n rows that passes the test
-unfoldable pub first_row : ℕ → (ℕ → Bool) → Found
+unfoldable pub first_row : ℕ → (ℕ → Bool) → Option ℕ
 first_row n test = first_from 0 n test
 
 -- each of n rows passes the test
@@ -32,7 +30,3 @@ pub record NextWith (word : ℕ → ℕ) (x n from r : ℕ) : Type 0 where
 -- a table of n rows has at most so many, and each passes the test
 unfoldable pub rows_ok : ℕ → ℕ → (ℕ → Bool) → Bool
 rows_ok most n test = every (leb n most ∷ all_of n test ∷ [])
-
-abbrev pub is_nothing : Found → Bool
-is_nothing (At i) = false
-is_nothing Nothing = true

@@ -8,7 +8,6 @@ ghost use Rattle.speed.specs.Speed.{row_number, list_number};
 
 use flows::Flow;
 use lists::Decision;
-use rows::Found;
 
 // The row of a flow, or 256.
 #[unsafe(no_mangle)]
@@ -17,8 +16,8 @@ pub extern "C" fn speed_channel(channels: &[u32; 2816], n: usize, f: Flow) -> u3
 {
     let found = channels::channel_of(channels, n, f);
     match found {
-        Found::At(i) => i as u32,
-        Found::Nothing => 256,
+        Some(i) => i as u32,
+        None => 256,
     }
 }
 

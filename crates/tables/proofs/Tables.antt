@@ -3,6 +3,7 @@
 --     Taken, tables-taken          what tables that start takes have, for every port, channel and entry
 --     own-channel, own_port        in them a channel's flow is found at its row, and a port by its circuit id
 -- Assumes nothing.
+use Rattle.std.specs.Prelude.{is_none, Some}
 use Prim.Native.Nat.{ℕ, ◌≤◌, ◌<◌, min}
 use mathlib.Core.Path.{◌≡◌, ap, ◌∙◌}
 use mathlib.Core.Bool.{Bool, true}
@@ -15,8 +16,7 @@ use Rattle.flows.specs.Words.{same}
 use Rattle.flows.specs.Flows.{same_flow, good_flow}
 use Rattle.flows.specs.declared.Flow.{Flow}
 use Rattle.flows.proofs.Same.{same_refl, same-flow_refl}
-use Rattle.rows.specs.Rows.{first_row, none_of, rows_ok, is_nothing}
-use Rattle.rows.specs.declared.Found.TheVariants.{At}
+use Rattle.rows.specs.Rows.{first_row, none_of, rows_ok}
 use Rattle.rows.proofs.Rows.{found_is, none-at, nothing-none, alone, rows_at}
 use Rattle.channels.specs.Channels.{channel_at, rate_at, is_row, channel_of}
 use Rattle.circuits.specs.Circuits.{id_length, id_at, has_id, port_of}
@@ -24,14 +24,14 @@ use Rattle.lists.specs.Lists.{entry_at}
 use Rattle.tables.specs.Tables.{id_ok, channel_ok, entry_ok, entry_ok_at, tables_ok}
 
 -- nothing is found among the rows before
-before-row : (test : ℕ → Bool) (i rows : ℕ) → i ≤ rows → is_nothing (first_row (min i rows) test) ≡ none_of i test
-before-row test i rows h = let e : min i rows ≡ i = omega arith in ap (λ (n : ℕ). is_nothing (first_row n test)) e ∙ nothing-none i test
+before-row : (test : ℕ → Bool) (i rows : ℕ) → i ≤ rows → is_none (first_row (min i rows) test) ≡ none_of i test
+before-row test i rows h = let e : min i rows ≡ i = omega arith in ap (λ (n : ℕ). is_none (first_row n test)) e ∙ nothing-none i test
 
-pub unused_id : (ids id : List ℕ) (p : ℕ) → p ≤ 64 → is_nothing (port_of ids p id) ≡ none_of p (has_id ids id)
+pub unused_id : (ids id : List ℕ) (p : ℕ) → p ≤ 64 → is_none (port_of ids p id) ≡ none_of p (has_id ids id)
 unfolding port_of
 unused_id ids id p h = before-row (has_id ids id) p 64 h
 
-pub unused_channel : (t : List ℕ) (f : Flow) (i : ℕ) → i ≤ 256 → is_nothing (channel_of t i f) ≡ none_of i (is_row t f)
+pub unused_channel : (t : List ℕ) (f : Flow) (i : ℕ) → i ≤ 256 → is_none (channel_of t i f) ≡ none_of i (is_row t f)
 unfolding channel_of
 unused_channel t f i h = before-row (is_row t f) i 256 h
 
@@ -89,7 +89,7 @@ module _ (ids : List ℕ) (ports : ℕ) (channels : List ℕ) (channel_count : �
       }
 
   -- a listed channel's flow is found at its row, and a port by its circuit id
-  pub own-channel : Taken ids ports channels channel_count entries entry_count → (i : ℕ) → i < channel_count → channel_of channels channel_count (channel_at channels i) ≡ At i
+  pub own-channel : Taken ids ports channels channel_count entries entry_count → (i : ℕ) → i < channel_count → channel_of channels channel_count (channel_at channels i) ≡ Some i
   unfolding channel_of
   own-channel t i l =
       found_is (is_row channels (channel_at channels i)) (min channel_count 256) i
@@ -99,7 +99,7 @@ module _ (ids : List ℕ) (ports : ℕ) (channels : List ℕ) (channel_count : �
         first = none-at i (is_row channels (channel_at channels i)) (t.channel i l).new;
       })
 
-  pub own_port : Taken ids ports channels channel_count entries entry_count → (p : ℕ) → p < ports → port_of ids ports (id_at ids p) ≡ At p
+  pub own_port : Taken ids ports channels channel_count entries entry_count → (p : ℕ) → p < ports → port_of ids ports (id_at ids p) ≡ Some p
   unfolding port_of
   own_port t p l =
       found_is (has_id ids (id_at ids p)) (min ports 64) p

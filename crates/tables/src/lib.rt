@@ -10,7 +10,6 @@ use channels::{channel_at, channel_of, rate_at};
 use circuits::{id_at, port_of};
 use flows::{good_flow, known_family, width};
 use lists::{Entry, entry_at};
-use rows::is_nothing;
 
 pub fn tables_ok(
     ids: &[u8; 4096],
@@ -60,7 +59,7 @@ fn id_ok(ids: &[u8; 4096], p: u8) -> bool
     if 63 < length {
         return false;
     }
-    is_nothing(port_of(ids, p as usize, id_at(ids, p)))
+    port_of(ids, p as usize, id_at(ids, p)).is_none()
 }
 
 // ---- channels
@@ -95,7 +94,7 @@ fn channel_ok(channels: &[u32; 2816], i: u8) -> bool
     if !good_flow(f) {
         return false;
     }
-    is_nothing(channel_of(channels, i as usize, f))
+    channel_of(channels, i as usize, f).is_none()
 }
 
 // ---- list entries

@@ -1,4 +1,5 @@
 -- Messages that differ only in what is not read come to the same, copies aside. Assumes nothing.
+use Rattle.std.specs.Prelude.{None, Some}
 use Prim.Native.Nat.{ℕ, ◌+◌}
 use mathlib.Core.Path.{◌≡◌, refl, sym, ap, ap₂, subst, ◌∙◌}
 use mathlib.Core.Bool.{Bool, true, false, cond, ◌||◌}
@@ -8,7 +9,6 @@ use lib.ListN.{drop}
 use lib.Dec.{eqb, ltb}
 use borrow.Author.Tests.{eqb-true}
 use Rattle.header.specs.declared.Header.{Header}
-use Rattle.header.specs.declared.Head.TheVariants.{Unusable, Usable}
 use Rattle.header.specs.Header.{size_ok, usable, header_in, head_in}
 use Rattle.tlv.specs.Depth.{depth_of}
 use Rattle.items.specs.Items.{Item, items_of}
@@ -152,7 +152,7 @@ module _ (ids channels : List ℕ) (card : Card) (space : ℕ) where
   unfolding received_of head_in by_head
   received_is m = ap (λ (o : Outcome). cond (ltb space 4608) (keeps card 13) (cond (size_ok m) o (keeps card 15))) (go (usable m))
     where
-      go : (b : Bool) → by_head ids channels card m (cond b (Usable (header_in m)) Unusable) ≡ cond b (by_tlvs m) (keeps card 15)
+      go : (b : Bool) → by_head ids channels card m (cond b (Some (header_in m)) None) ≡ cond b (by_tlvs m) (keeps card 15)
       go true = refl
       go false = refl
 

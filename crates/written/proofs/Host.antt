@@ -1,4 +1,5 @@
 -- What the host's calls write: join and ask the message that is begun, or nothing; the others nothing. Assumes nothing.
+use Rattle.std.specs.Prelude.{Option, Some, None}
 use Prim.Native.Nat.{ℕ, ◌<◌}
 use mathlib.Core.Path.{◌≡◌, refl, sym}
 use mathlib.Core.Bool.{true}
@@ -6,12 +7,10 @@ use lib.ListN.{length}
 use lib.Dec.{eqb, ltb, leb}
 use Rattle.flows.specs.declared.Flow.{Flow}
 use Rattle.flows.specs.Flows.{good_flow}
-use Rattle.rows.specs.declared.Found.{Found}
-use Rattle.rows.specs.declared.Found.TheVariants.{At, Nothing}
 use Rattle.channels.specs.Channels.{channel_at, channel_of}
 use Rattle.channels.proofs.Channels.{channel-found}
 use Rattle.lists.specs.declared.Decision.{Decision}
-use Rattle.lists.specs.declared.Decision.TheVariants.{Black, Grey, White, None}
+use Rattle.lists.specs.declared.Decision.TheVariants.{Black, Grey, White, None as Unlisted}
 use Rattle.lists.specs.Lists.{list_decision}
 use Rattle.circuits.specs.Circuits.{id_at}
 use Rattle.ports.specs.Ports.{may_ask}
@@ -84,13 +83,13 @@ module _ (t : Tables) (card : Card) where
         list_writes good four k Grey =
             admission (kinds_back.admission card.head.counter.number (id_at t.ids p) f range four.0 four.1 good)
         list_writes good four k Black = nothing
-        list_writes good four k None = nothing
+        list_writes good four k Unlisted = nothing
 
-        row-writes : good_flow f ≡ true → (r : Found) → channel_of t.channels card.head.channel_count f ≡ r
+        row-writes : good_flow f ≡ true → (r : Option ℕ) → channel_of t.channels card.head.channel_count f ≡ r
             → ByJoin (join_row t.ids t.channels t.entries card p f r)
         unfolding join_row
-        row-writes good Nothing e = nothing
-        row-writes good (At k) e =
+        row-writes good None e = nothing
+        row-writes good (Some k) e =
             by_cond ByJoin (is_active card.pool p k) _ _ (λ _. nothing)
             (λ _. list_writes good (rw (sym (channel-found t.channels card.head.channel_count f e).is) (channel_words k)) k
             (list_decision t.entries card.head.entry_count f))

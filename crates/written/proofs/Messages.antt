@@ -1,4 +1,5 @@
 -- What a message that is handed in writes, check by check: nothing, or the answer of its row or type. Assumes nothing.
+use Rattle.std.specs.Prelude.{Option}
 use Prim.Native.Nat.{ℕ, ◌+◌, ◌<◌}
 use mathlib.Core.Path.{◌≡◌, refl, sym, ap, subst, ◌∙◌}
 use mathlib.Core.Bool.{Bool, true, false, cond, ◌||◌}
@@ -8,7 +9,6 @@ use lib.ListN.{length, drop, length-append}
 use lib.Dec.{eqb, ltb}
 use borrow.Author.Tests.{eqb-true, eqb-false, ltb-true, ltb-false}
 use Rattle.header.specs.declared.Header.{Header}
-use Rattle.header.specs.declared.Head.{Head}
 use Rattle.header.specs.Header.{size_ok, usable, header_in, head_in}
 use Rattle.tlv.specs.Depth.{depth_of, list_ok}
 use Rattle.items.specs.Items.{Item, items_of}
@@ -205,7 +205,7 @@ module _ (t : Tables) (card : Card) (m : List ℕ) (space : ℕ) (octets : Octet
 
   head_writes : So (by_head t.ids t.channels card m (head_in m))
   unfolding head_in by_head
-  head_writes = by_cond (λ (x : Head). So (by_head t.ids t.channels card m x)) (usable m) _ _ (λ _. result_writes) (λ _. nothing)
+  head_writes = by_cond (λ (x : Option Header). So (by_head t.ids t.channels card m x)) (usable m) _ _ (λ _. result_writes) (λ _. nothing)
 
   pub message_writes : So (received_of t.ids t.channels card m space)
   unfolding received_of

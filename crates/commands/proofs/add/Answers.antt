@@ -7,17 +7,17 @@ use Rattle.commands.proofs.Runs.{runs_by, runs_as, listed}
 use borrow.Author.Rules.{rules}
 use Rattle.commands.proofs.add.Goals as goal
 
-pub returns-in-Nothing : goal.returns-in-Nothing
+pub returns-in-None : goal.returns-in-None
 unfolding add_row
-returns-in-Nothing c =
+returns-in-None c =
     let maps : Pool = pool_of c.args.owner.now c.args.channel.now c.args.charged.now c.args.accounting.now in
     let a = c.args in
     runs_by 0x66 refl c.requires.1
-    (λ card h. ap (add_row a.channels.now (with_pool card maps) a.terms.at a.value) (sym (listed h a.channels.now a.f c.channel_of-found.ensures c.in-Nothing.is)))
+    (λ card h. ap (add_row a.channels.now (with_pool card maps) a.terms.at a.value) (sym (listed h a.channels.now a.f c.channel_of-found.ensures c.in-None.is)))
 
-pub returns-in-At : goal.returns-in-At
-returns-in-At c =
+pub returns-in-Some : goal.returns-in-Some
+returns-in-Some c =
     let maps : Pool = pool_of c.args.owner.now c.args.channel.now c.args.charged.now c.args.accounting.now in
     let a = c.args in
     runs_as c.add_channel.ensures
-    (λ card h. ap (add_row a.channels.now (with_pool card maps) a.terms.at a.value) (sym (listed h a.channels.now a.f c.channel_of-found.ensures c.in-At.is)))
+    (λ card h. ap (add_row a.channels.now (with_pool card maps) a.terms.at a.value) (sym (listed h a.channels.now a.f c.channel_of-found.ensures c.in-Some.is)))

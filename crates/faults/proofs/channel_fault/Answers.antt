@@ -1,10 +1,11 @@
+use mathlib.Core.Bool.{not}
+use Rattle.std.specs.Prelude.{is_none}
 use mathlib.Core.Path.{refl, sym, ap, ◌∙◌}
 use native.Mathlib.Omega.{arith}
 use borrow.Author.Tests.{le-leb, lt-leb}
 use Rattle.octets.specs.Tests.{every}
 use Rattle.flows.specs.Flows.{known_family, good_group, good_source}
 use Rattle.flows.specs.declared.Flow.{Flow}
-use Rattle.rows.specs.Rows.{is_nothing}
 use Rattle.channels.specs.Channels.{rate_at, channel_at, channel_of}
 use Rattle.tables.proofs.Tables.{unused_channel}
 use Rattle.faults.specs.Faults.{channel_checks}
@@ -52,16 +53,16 @@ returns-then-not-good_source c =
     (names_on _ _ (ap (λ (f : Flow). good_group f.family f.group) (sym c.channel_at-f.ensures) ∙ sym c.good_group.ensures ∙ c.if-not-good_group.false)
     (names-fails _ _ (ap (λ (f : Flow). good_source f.family f.sourced f.source) (sym c.channel_at-f.ensures) ∙ sym c.good_source.ensures ∙ c.if-not-good_source.true) refl c.fault_at-then-not-good_source.ensures)))
 
-pub returns-then-not-is_nothing : goal.returns-then-not-is_nothing
+pub returns-then-is_some : goal.returns-then-is_some
 unfolding channel_checks every
-returns-then-not-is_nothing c =
+returns-then-is_some c =
     let a = c.args in
     let t = a.channels.now in
     names_on _ _ (simp (le-leb 1 (rate_at t a.i) (omega (arith, c.rate_at-rate.ensures, c.if-rate-lt1.false)), le-leb (rate_at t a.i) 10000000 (omega (arith, c.rate_at-rate.ensures, c.if-rate-gt10000000.false))))
     (names_on _ _ (ap (λ (f : Flow). known_family f.family) (sym c.channel_at-f.ensures) ∙ sym c.known_family.ensures ∙ c.if-not-known_family.false)
     (names_on _ _ (ap (λ (f : Flow). good_group f.family f.group) (sym c.channel_at-f.ensures) ∙ sym c.good_group.ensures ∙ c.if-not-good_group.false)
     (names_on _ _ (ap (λ (f : Flow). good_source f.family f.sourced f.source) (sym c.channel_at-f.ensures) ∙ sym c.good_source.ensures ∙ c.if-not-good_source.false)
-    (names-fails _ _ (sym (c.is_nothing.ensures ∙ ap is_nothing (c.channel_of.ensures ∙ ap (channel_of t a.i) c.channel_at-f.ensures) ∙ unused_channel t (channel_at t a.i) a.i (omega arith)) ∙ c.if-not-is_nothing.true) refl c.fault_at-then-not-is_nothing.ensures))))
+    (names-fails _ _ (sym (ap not c.is_some.ensures ∙ ap is_none (c.channel_of.ensures ∙ ap (channel_of t a.i) c.channel_at-f.ensures) ∙ unused_channel t (channel_at t a.i) a.i (omega arith)) ∙ ap not c.if-is_some.true) refl c.fault_at-then-is_some.ensures))))
 
 pub returns : goal.returns
 unfolding channel_checks every
@@ -72,5 +73,5 @@ returns c =
     (names_on _ _ (ap (λ (f : Flow). known_family f.family) (sym c.channel_at-f.ensures) ∙ sym c.known_family.ensures ∙ c.if-not-known_family.false)
     (names_on _ _ (ap (λ (f : Flow). good_group f.family f.group) (sym c.channel_at-f.ensures) ∙ sym c.good_group.ensures ∙ c.if-not-good_group.false)
     (names_on _ _ (ap (λ (f : Flow). good_source f.family f.sourced f.source) (sym c.channel_at-f.ensures) ∙ sym c.good_source.ensures ∙ c.if-not-good_source.false)
-    (names_on _ _ (sym (c.is_nothing.ensures ∙ ap is_nothing (c.channel_of.ensures ∙ ap (channel_of t a.i) c.channel_at-f.ensures) ∙ unused_channel t (channel_at t a.i) a.i (omega arith)) ∙ c.if-not-is_nothing.false)
+    (names_on _ _ (sym (ap not c.is_some.ensures ∙ ap is_none (c.channel_of.ensures ∙ ap (channel_of t a.i) c.channel_at-f.ensures) ∙ unused_channel t (channel_at t a.i) a.i (omega arith)) ∙ ap not c.if-is_some.false)
     (names-none c.fault_at-2.ensures)))))

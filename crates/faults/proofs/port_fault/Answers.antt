@@ -1,8 +1,9 @@
+use mathlib.Core.Bool.{not}
+use Rattle.std.specs.Prelude.{is_none}
 use mathlib.Core.Path.{refl, sym, ap, ◌∙◌}
 use native.Mathlib.Omega.{arith}
 use borrow.Author.Tests.{le-leb, lt-leb}
 use Rattle.octets.specs.Tests.{every}
-use Rattle.rows.specs.Rows.{is_nothing}
 use Rattle.circuits.specs.Circuits.{id_length, id_at, port_of}
 use Rattle.tables.proofs.Tables.{unused_id}
 use Rattle.faults.specs.Faults.{port_checks}
@@ -19,17 +20,17 @@ unfolding port_checks id_length every
 returns-then-length-gt63 c =
     names-fails _ _ (simp (le-leb _ _ c.if-length-lt1.false, lt-leb _ _ c.if-length-gt63.true)) refl c.fault_at-then-length-gt63.ensures
 
-pub returns-then-not-is_nothing : goal.returns-then-not-is_nothing
+pub returns-then-is_some : goal.returns-then-is_some
 unfolding port_checks id_length every
-returns-then-not-is_nothing c =
+returns-then-is_some c =
     let a = c.args in
     names_on _ _ (simp (le-leb _ _ c.if-length-lt1.false, le-leb _ _ c.if-length-gt63.false))
-    (names-fails _ _ (sym (c.is_nothing.ensures ∙ ap is_nothing (c.port_of.ensures ∙ ap (port_of a.ids.now a.p) c.id_at.ensures) ∙ unused_id a.ids.now (id_at a.ids.now a.p) a.p (omega arith)) ∙ c.if-not-is_nothing.true) refl c.fault_at-then-not-is_nothing.ensures)
+    (names-fails _ _ (sym (ap not c.is_some.ensures ∙ ap is_none (c.port_of.ensures ∙ ap (port_of a.ids.now a.p) c.id_at.ensures) ∙ unused_id a.ids.now (id_at a.ids.now a.p) a.p (omega arith)) ∙ ap not c.if-is_some.true) refl c.fault_at-then-is_some.ensures)
 
 pub returns : goal.returns
 unfolding port_checks id_length every
 returns c =
     let a = c.args in
     names_on _ _ (simp (le-leb _ _ c.if-length-lt1.false, le-leb _ _ c.if-length-gt63.false))
-    (names_on _ _ (sym (c.is_nothing.ensures ∙ ap is_nothing (c.port_of.ensures ∙ ap (port_of a.ids.now a.p) c.id_at.ensures) ∙ unused_id a.ids.now (id_at a.ids.now a.p) a.p (omega arith)) ∙ c.if-not-is_nothing.false)
+    (names_on _ _ (sym (ap not c.is_some.ensures ∙ ap is_none (c.port_of.ensures ∙ ap (port_of a.ids.now a.p) c.id_at.ensures) ∙ unused_id a.ids.now (id_at a.ids.now a.p) a.p (omega arith)) ∙ ap not c.if-is_some.false)
     (names-none c.fault_at-2.ensures))

@@ -60,9 +60,9 @@ pub join_channel-requires : goal.join_channel-requires
 join_channel-requires c =
     let inside : c.args.p < 64 = c.is_port.ensures.inside (c.if-not-is_port.false) in record { whole = c.requires; past = (c.if-reply-lt4608.false, inside) }
 
-pub returns-in-Nothing : goal.returns-in-Nothing
+pub returns-in-None : goal.returns-in-None
 unfolding join_row
-returns-in-Nothing c =
+returns-in-None c =
     let maps : Pool = pool_of c.args.owner.now c.args.channel.now c.args.charged.now c.args.accounting.now in
     let full : ltb (length c.args.reply.now) 4608 ≡ false = le-ltb _ _ c.if-reply-lt4608.false in
     let inside : c.args.p < 64 = c.is_port.ensures.inside (c.if-not-is_port.false) in
@@ -70,13 +70,13 @@ returns-in-Nothing c =
     let up : c.args.terms.port.up ≡ true = not-false _ c.if-not-x.false in
     let good : good_flow c.args.f ≡ true = sym c.good_flow.ensures ∙ c.if-not-good_flow.false in
     let a = c.args in
-    comes-kept refl 9 c.unchanged-in-Nothing.ensures
+    comes-kept refl 9 c.unchanged-in-None.ensures
     (λ card h.
-    ap (join_row a.ids.now a.channels.now a.entries.now (with_pool card maps) a.p a.f) (found_is h a.channels.now a.f c.channel_of-found.ensures c.in-Nothing.is)
+    ap (join_row a.ids.now a.channels.now a.entries.now (with_pool card maps) a.p a.f) (found_is h a.channels.now a.f c.channel_of-found.ensures c.in-None.is)
     ∙ join-row a.ids.now a.channels.now a.entries.now (with_pool card maps) a.p a.f _ full (is_here h here) (is_up h inside up) good)
 
-pub returns-in-At : goal.returns-in-At
-returns-in-At c =
+pub returns-in-Some : goal.returns-in-Some
+returns-in-Some c =
     let maps : Pool = pool_of c.args.owner.now c.args.channel.now c.args.charged.now c.args.accounting.now in
     let full : ltb (length c.args.reply.now) 4608 ≡ false = le-ltb _ _ c.if-reply-lt4608.false in
     let inside : c.args.p < 64 = c.is_port.ensures.inside (c.if-not-is_port.false) in
@@ -86,5 +86,5 @@ returns-in-At c =
     let a = c.args in
     comes_as c.join_channel.ensures
     (λ card h.
-    ap (join_row a.ids.now a.channels.now a.entries.now (with_pool card maps) a.p a.f) (found_is h a.channels.now a.f c.channel_of-found.ensures c.in-At.is)
+    ap (join_row a.ids.now a.channels.now a.entries.now (with_pool card maps) a.p a.f) (found_is h a.channels.now a.f c.channel_of-found.ensures c.in-Some.is)
     ∙ join-row a.ids.now a.channels.now a.entries.now (with_pool card maps) a.p a.f _ full (is_here h here) (is_up h inside up) good)

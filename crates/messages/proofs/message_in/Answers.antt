@@ -1,3 +1,4 @@
+use Rattle.std.specs.Prelude.{Some}
 use native.Mathlib.Omega.{arith}
 use mathlib.Core.Path.{◌≡◌, refl, sym, ap, ◌∙◌}
 use mathlib.Core.Bool.{true, false}
@@ -5,7 +6,6 @@ use lib.ListN.{length}
 use lib.Dec.{ltb}
 use borrow.Author.Tests.{lt-ltb, le-ltb}
 use Rattle.octets.proofs.Parts.{rest_part}
-use Rattle.header.specs.declared.Head.TheVariants.{Usable}
 use Rattle.header.specs.Header.{size_ok, header_in, head_in}
 use Rattle.pool.specs.declared.Pool.{Pool}
 use Rattle.pool.specs.Pool.{pool_of}
@@ -33,19 +33,19 @@ returns-then-p-gt64 c =
 
 pub header_fields-requires : goal.header_fields-requires
 header_fields-requires c =
-    let right : (size_ok c.args.octets.now ≡ true) × (head_in c.args.octets.now ≡ Usable (header_in c.args.octets.now)) = let a = c.args in right_by a.ids.now a.terms.head.port_count a.octets.now c.requires.2 c.if-p-gt64.false in size_least c.args.octets.now right.0
+    let right : (size_ok c.args.octets.now ≡ true) × (head_in c.args.octets.now ≡ Some (header_in c.args.octets.now)) = let a = c.args in right_by a.ids.now a.terms.head.port_count a.octets.now c.requires.2 c.if-p-gt64.false in size_least c.args.octets.now right.0
 
 pub slice_bounds-by_result-count : goal.slice_bounds-by_result-count
 slice_bounds-by_result-count c =
-    let right : (size_ok c.args.octets.now ≡ true) × (head_in c.args.octets.now ≡ Usable (header_in c.args.octets.now)) = let a = c.args in right_by a.ids.now a.terms.head.port_count a.octets.now c.requires.2 c.if-p-gt64.false in size_least c.args.octets.now right.0
+    let right : (size_ok c.args.octets.now ≡ true) × (head_in c.args.octets.now ≡ Some (header_in c.args.octets.now)) = let a = c.args in right_by a.ids.now a.terms.head.port_count a.octets.now c.requires.2 c.if-p-gt64.false in size_least c.args.octets.now right.0
 
 pub slice_bounds-by_result-start : goal.slice_bounds-by_result-start
 slice_bounds-by_result-start c =
-    let right : (size_ok c.args.octets.now ≡ true) × (head_in c.args.octets.now ≡ Usable (header_in c.args.octets.now)) = let a = c.args in right_by a.ids.now a.terms.head.port_count a.octets.now c.requires.2 c.if-p-gt64.false in omega (arith, size_least c.args.octets.now right.0)
+    let right : (size_ok c.args.octets.now ≡ true) × (head_in c.args.octets.now ≡ Some (header_in c.args.octets.now)) = let a = c.args in right_by a.ids.now a.terms.head.port_count a.octets.now c.requires.2 c.if-p-gt64.false in omega (arith, size_least c.args.octets.now right.0)
 
 pub by_result-requires : goal.by_result-requires
 by_result-requires c =
-    let right : (size_ok c.args.octets.now ≡ true) × (head_in c.args.octets.now ≡ Usable (header_in c.args.octets.now)) = let a = c.args in right_by a.ids.now a.terms.head.port_count a.octets.now c.requires.2 c.if-p-gt64.false in
+    let right : (size_ok c.args.octets.now ≡ true) × (head_in c.args.octets.now ≡ Some (header_in c.args.octets.now)) = let a = c.args in right_by a.ids.now a.terms.head.port_count a.octets.now c.requires.2 c.if-p-gt64.false in
     let a = c.args in
     let r = right in
     record {
@@ -58,9 +58,9 @@ pub returns : goal.returns
 returns c =
     let maps : Pool = pool_of c.args.owner.now c.args.channel.now c.args.charged.now c.args.accounting.now in
     let full : ltb (length c.args.reply.now) 4608 ≡ false = le-ltb _ _ c.if-reply-lt4608.false in
-    let right : (size_ok c.args.octets.now ≡ true) × (head_in c.args.octets.now ≡ Usable (header_in c.args.octets.now)) = let a = c.args in right_by a.ids.now a.terms.head.port_count a.octets.now c.requires.2 c.if-p-gt64.false in
+    let right : (size_ok c.args.octets.now ≡ true) × (head_in c.args.octets.now ≡ Some (header_in c.args.octets.now)) = let a = c.args in right_by a.ids.now a.terms.head.port_count a.octets.now c.requires.2 c.if-p-gt64.false in
     let a = c.args in
     let r = right in
     comes_as c.by_result.ensures
     (λ card t. ap (by_result a.ids.now a.channels.now (with_pool card maps) c.header_fields.result) (rest_part 16 a.octets.now)
-    ∙ usable_is a.ids.now a.channels.now (with_pool card maps) a.octets.now _ full r.0 (r.1 ∙ ap Usable (sym c.header_fields.ensures)))
+    ∙ usable_is a.ids.now a.channels.now (with_pool card maps) a.octets.now _ full r.0 (r.1 ∙ ap Some (sym c.header_fields.ensures)))

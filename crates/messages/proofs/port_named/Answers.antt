@@ -18,14 +18,14 @@ pub slice_bounds-port_named-start : goal.slice_bounds-port_named-start
 slice_bounds-port_named-start c =
     let size : size_ok c.args.octets.now ≡ true = sym c.size_ok.ensures ∙ c.if-not-size_ok.false in omega (arith, size_least c.args.octets.now size)
 
-pub returns-in-Unusable : goal.returns-in-Unusable
-returns-in-Unusable c =
+pub returns-in-None : goal.returns-in-None
+returns-in-None c =
     let size : size_ok c.args.octets.now ≡ true = sym c.size_ok.ensures ∙ c.if-not-size_ok.false in
     let a = c.args in
-    named_unusable a.ids.now a.port_count a.octets.now size (sym c.read_header-head.ensures ∙ c.in-Unusable.is)
+    named_unusable a.ids.now a.port_count a.octets.now size (sym c.read_header-head.ensures ∙ c.in-None.is)
 
-pub returns-in-Usable : goal.returns-in-Usable
-returns-in-Usable c =
+pub returns-in-Some : goal.returns-in-Some
+returns-in-Some c =
     let size : size_ok c.args.octets.now ≡ true = sym c.size_ok.ensures ∙ c.if-not-size_ok.false in
     let a = c.args in
-    c.port_named.ensures ∙ ap (port_named a.ids.now a.port_count) (rest_part 16 a.octets.now) ∙ named_usable a.ids.now a.port_count a.octets.now size (sym c.read_header-head.ensures ∙ c.in-Usable.is)
+    c.port_named.ensures ∙ ap (port_named a.ids.now a.port_count) (rest_part 16 a.octets.now) ∙ named_usable a.ids.now a.port_count a.octets.now size (sym c.read_header-head.ensures ∙ c.in-Some.is)

@@ -1,9 +1,9 @@
+use Rattle.std.specs.Prelude.{Option}
 use Prim.Native.Nat.{ℕ, ◌+◌, ◌-◌}
 use mathlib.Core.Path.{◌≡◌, refl, ap, ◌∙◌}
 use mathlib.Core.Bool.{Bool}
 use mathlib.Core.List.{List}
 use Rattle.rows.specs.Rows.{first_row}
-use Rattle.rows.specs.declared.Found.{Found}
 use Rattle.rows.proofs.Nexts.{next-stands}
 use Rattle.pool.specs.Pool.{is_held, state_at, state_in, active_in}
 use Rattle.pool.specs.declared.FlowState.{FlowState}
@@ -13,7 +13,7 @@ use borrow.Author.Rules.{rules}
 use Rattle.pool.proofs.state_of.Goals as goal
 
 -- what was found, as the two clauses have it
-module _ (owner channel : List ℕ) (charged : List Bool) (accounting : List ℕ) (p k : ℕ) {r : FlowState} {found : Found} where
+module _ (owner channel : List ℕ) (charged : List Bool) (accounting : List ℕ) (p k : ℕ) {r : FlowState} {found : Option ℕ} where
   gives : r ≡ state_at charged accounting found → found ≡ first_row 512 (is_held owner channel p k)
       → (r ≡ state_in owner channel charged accounting p k) × (r.active ≡ active_in owner channel p k)
   unfolding state_in

@@ -1,9 +1,9 @@
+use Rattle.std.specs.Prelude.{Option}
 use Prim.Native.Nat.{ℕ, ◌+◌, ◌-◌}
 use mathlib.Core.Path.{◌≡◌, refl, ap, ◌∙◌}
 use mathlib.Core.Bool.{Bool}
 use mathlib.Core.List.{List}
 use Rattle.rows.specs.Rows.{first_row}
-use Rattle.rows.specs.declared.Found.{Found}
 use Rattle.rows.proofs.Nexts.{next-stands}
 use Rattle.pool.specs.Pool.{is_held, state_at, state_in, active_in}
 use Rattle.pool.specs.declared.FlowState.{FlowState}

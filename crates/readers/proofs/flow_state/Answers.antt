@@ -1,8 +1,8 @@
+use Rattle.std.specs.Prelude.{Some, None}
 use native.Mathlib.Omega.{arith}
 use mathlib.Core.Path.{◌≡◌, sym, ◌∙◌}
 use mathlib.Core.Bool.{true}
 use Rattle.octets.proofs.Tests.{left}
-use Rattle.rows.specs.declared.Found.TheVariants.{At, Nothing}
 use Rattle.pool.specs.Pool.{pool_of}
 use Rattle.card.specs.Cards.{Card, has_port, with_pool}
 use Rattle.listing.specs.Listing.{active_row, active_at}
@@ -17,18 +17,18 @@ returns-then-not-is_port c = record { state = λ card h k. left _ _ _ (not_port 
 pub overflow_cast-p : goal.overflow_cast-p
 overflow_cast-p c = omega (arith, c.is_port.ensures.inside (c.if-not-is_port.false))
 
-pub returns-in-Nothing : goal.returns-in-Nothing
+pub returns-in-None : goal.returns-in-None
 unfolding state_row active_row
-returns-in-Nothing c =
+returns-in-None c =
     let s = c in
     let a = s.args in
     let port : (card : Card) → card.head.port_count ≡ a.count → has_port card a.p ≡ true = λ card h. is_port_lem (with_pool card (pool_of s.args.owner.now s.args.channel.now s.args.charged.now s.args.accounting.now)) _ _ h c.is_port.ensures.test c.if-not-is_port.false in
-    let row = sym c.in-Nothing.is ∙ c.channel_of-found.ensures in record { state = λ card h k. state_of_row a.channels.now (with_pool card (pool_of s.args.owner.now s.args.channel.now s.args.charged.now s.args.accounting.now)) _ a.p a.f k (port card h) Nothing row; active = λ card h k. active_of_row a.channels.now (with_pool card (pool_of s.args.owner.now s.args.channel.now s.args.charged.now s.args.accounting.now)) _ a.p a.f k (port card h) Nothing row }
+    let row = sym c.in-None.is ∙ c.channel_of-found.ensures in record { state = λ card h k. state_of_row a.channels.now (with_pool card (pool_of s.args.owner.now s.args.channel.now s.args.charged.now s.args.accounting.now)) _ a.p a.f k (port card h) None row; active = λ card h k. active_of_row a.channels.now (with_pool card (pool_of s.args.owner.now s.args.channel.now s.args.charged.now s.args.accounting.now)) _ a.p a.f k (port card h) None row }
 
-pub returns-in-At : goal.returns-in-At
+pub returns-in-Some : goal.returns-in-Some
 unfolding state_row active_row
-returns-in-At c =
+returns-in-Some c =
     let s = c in
     let a = s.args in
     let port : (card : Card) → card.head.port_count ≡ a.count → has_port card a.p ≡ true = λ card h. is_port_lem (with_pool card (pool_of s.args.owner.now s.args.channel.now s.args.charged.now s.args.accounting.now)) _ _ h c.is_port.ensures.test c.if-not-is_port.false in
-    let row = sym c.in-At.is ∙ c.channel_of-found.ensures in record { state = λ card h k. c.state_of.ensures.state ∙ state_of_row a.channels.now (with_pool card (pool_of s.args.owner.now s.args.channel.now s.args.charged.now s.args.accounting.now)) _ a.p a.f k (port card h) (At _) row; active = λ card h k. c.state_of.ensures.active ∙ active_of_row a.channels.now (with_pool card (pool_of s.args.owner.now s.args.channel.now s.args.charged.now s.args.accounting.now)) _ a.p a.f k (port card h) (At _) row }
+    let row = sym c.in-Some.is ∙ c.channel_of-found.ensures in record { state = λ card h k. c.state_of.ensures.state ∙ state_of_row a.channels.now (with_pool card (pool_of s.args.owner.now s.args.channel.now s.args.charged.now s.args.accounting.now)) _ a.p a.f k (port card h) (Some _) row; active = λ card h k. c.state_of.ensures.active ∙ active_of_row a.channels.now (with_pool card (pool_of s.args.owner.now s.args.channel.now s.args.charged.now s.args.accounting.now)) _ a.p a.f k (port card h) (Some _) row }

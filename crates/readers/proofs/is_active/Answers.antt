@@ -1,7 +1,7 @@
+use Rattle.std.specs.Prelude.{Some, None}
 use native.Mathlib.Omega.{arith}
 use mathlib.Core.Path.{sym, ◌∙◌}
 use Rattle.octets.proofs.Tests.{left}
-use Rattle.rows.specs.declared.Found.TheVariants.{At, Nothing}
 use Rattle.pool.specs.Pool.{pool_of}
 use Rattle.card.specs.Cards.{with_pool}
 use Rattle.listing.specs.Listing.{active_row, active_at}
@@ -15,21 +15,21 @@ returns-then-not-is_port c card charged accounting h k = left _ _ _ (not_port (w
 pub overflow_cast-p : goal.overflow_cast-p
 overflow_cast-p c = omega (arith, c.is_port.ensures.inside (c.if-not-is_port.false))
 
-pub returns-in-Nothing : goal.returns-in-Nothing
+pub returns-in-None : goal.returns-in-None
 unfolding active_row
-returns-in-Nothing c card charged accounting h k =
+returns-in-None c card charged accounting h k =
     let s = c in
     let a = s.args in
     active_of_row a.channels.now (with_pool card (pool_of s.args.owner.now s.args.channel.now charged accounting)) _ a.p a.f k
-    (is_port_lem (with_pool card (pool_of s.args.owner.now s.args.channel.now charged accounting)) _ _ h c.is_port.ensures.test c.if-not-is_port.false) Nothing
-    (sym c.in-Nothing.is ∙ c.channel_of-found.ensures)
+    (is_port_lem (with_pool card (pool_of s.args.owner.now s.args.channel.now charged accounting)) _ _ h c.is_port.ensures.test c.if-not-is_port.false) None
+    (sym c.in-None.is ∙ c.channel_of-found.ensures)
 
-pub returns-in-At : goal.returns-in-At
+pub returns-in-Some : goal.returns-in-Some
 unfolding active_row
-returns-in-At c card charged accounting h k =
+returns-in-Some c card charged accounting h k =
     let s = c in
     let a = s.args in
     c.is_active.ensures
     ∙ active_of_row a.channels.now (with_pool card (pool_of s.args.owner.now s.args.channel.now charged accounting)) _ a.p a.f k
-    (is_port_lem (with_pool card (pool_of s.args.owner.now s.args.channel.now charged accounting)) _ _ h c.is_port.ensures.test c.if-not-is_port.false) (At _)
-    (sym c.in-At.is ∙ c.channel_of-found.ensures)
+    (is_port_lem (with_pool card (pool_of s.args.owner.now s.args.channel.now charged accounting)) _ _ h c.is_port.ensures.test c.if-not-is_port.false) (Some _)
+    (sym c.in-Some.is ∙ c.channel_of-found.ensures)

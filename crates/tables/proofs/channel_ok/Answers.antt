@@ -1,12 +1,13 @@
+use Rattle.std.specs.Prelude.{is_none}
 use mathlib.Core.Path.{sym, ap, ◌∙◌}
 use mathlib.Core.Bool.{and-true}
 use native.Mathlib.Omega.{arith}
 use borrow.Author.Tests.{le-leb, lt-leb}
 use Rattle.octets.specs.Tests.{every}
 use Rattle.flows.specs.Flows.{good_flow}
-use Rattle.rows.specs.Rows.{is_nothing}
 use Rattle.channels.specs.Channels.{rate_at, channel_at, channel_of}
 use Rattle.tables.specs.Tables.{channel_ok}
+use Rattle.rows.proofs.Rows.{none-is}
 use Rattle.tables.proofs.Tables.{unused_channel}
 use Rattle.tables.proofs.channel_ok.Goals as goal
 
@@ -29,4 +30,4 @@ unfolding channel_ok every
 returns c =
     let a = c.args in
     simp (le-leb 1 (rate_at a.channels.now a.i) (omega arith), le-leb (rate_at a.channels.now a.i) 10000000 (omega arith), ap good_flow (sym c.channel_at-f.ensures) ∙ sym c.good_flow.ensures ∙ c.if-not-good_flow.false, and-true)
-    (c.is_nothing.ensures ∙ ap is_nothing (c.channel_of.ensures ∙ ap (channel_of a.channels.now a.i) c.channel_at-f.ensures) ∙ unused_channel a.channels.now (channel_at a.channels.now a.i) a.i (omega arith))
+    (none-is _ _ c.is_none.ensures ∙ ap is_none (c.channel_of.ensures ∙ ap (channel_of a.channels.now a.i) c.channel_at-f.ensures) ∙ unused_channel a.channels.now (channel_at a.channels.now a.i) a.i (omega arith))

@@ -1,11 +1,12 @@
+use Rattle.std.specs.Prelude.{is_none}
 use mathlib.Core.Path.{ap, ◌∙◌}
 use mathlib.Core.Bool.{and-true}
 use native.Mathlib.Omega.{arith}
 use borrow.Author.Tests.{le-leb, lt-leb}
 use Rattle.octets.specs.Tests.{every}
-use Rattle.rows.specs.Rows.{is_nothing}
 use Rattle.circuits.specs.Circuits.{id_length, id_at, port_of}
 use Rattle.tables.specs.Tables.{id_ok}
+use Rattle.rows.proofs.Rows.{none-is}
 use Rattle.tables.proofs.Tables.{unused_id}
 use Rattle.tables.proofs.id_ok.Goals as goal
 
@@ -22,4 +23,4 @@ unfolding id_ok id_length every
 returns c =
     let a = c.args in
     simp (le-leb _ _ c.if-length-lt1.false, le-leb _ _ c.if-length-gt63.false, and-true)
-    (c.is_nothing.ensures ∙ ap is_nothing (c.port_of.ensures ∙ ap (port_of a.ids.now a.p) c.id_at.ensures) ∙ unused_id a.ids.now (id_at a.ids.now a.p) a.p (omega arith))
+    (none-is _ _ c.is_none.ensures ∙ ap is_none (c.port_of.ensures ∙ ap (port_of a.ids.now a.p) c.id_at.ensures) ∙ unused_id a.ids.now (id_at a.ids.now a.p) a.p (omega arith))
