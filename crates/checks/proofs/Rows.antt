@@ -7,7 +7,6 @@
 --     refused-tells    the codes with which a message can be refused, each with the test that failed and those before it
 --     passes           what a message must show to pass
 -- Assumes nothing.
-use Rattle.std.specs.Prelude.{Option, Some, None}
 use mathlib.Core.Path.{◌≡◌, refl, sym, ap, ◌∙◌}
 use mathlib.Core.Bool.{Bool, true, false, cond}
 use mathlib.Core.List.{List, [], ◌∷◌}
@@ -16,6 +15,7 @@ use native.Mathlib.Omega.{arith}
 use lib.ListN.{length}
 use lib.Dec.{eqb, ltb}
 use borrow.Author.Tests.{ltb-true, ltb-false, eqb-true, eqb-false, eq-eqb, ne_eqb}
+use Rattle.std.specs.Prelude.{Option, Some, None, Result, Ok, Err}
 use Rattle.header.specs.declared.Header.{Header}
 use Rattle.tlv.specs.Depth.{depth_of, list_ok}
 use Rattle.items.specs.Items.{items_of}
@@ -29,8 +29,6 @@ use Rattle.card.proofs.Parts.{ports_are, is_up}
 use Rattle.rules.specs.Rules.{handled, result_ok, transaction_ok, rules_of}
 use Rattle.rules.specs.Named.{missing}
 use Rattle.rules.proofs.Walk.{empty_by}
-use Rattle.checks.specs.declared.Verdict.{Verdict}
-use Rattle.checks.specs.declared.Verdict.TheVariants.{Refused, Passed}
 use Rattle.checks.specs.Table.{id_in, number_of, port_named, Located, located, faults, named_rows, table_of}
 
 -- how many types are missing
@@ -44,23 +42,23 @@ some_by : (n : ℕ) → ltb 0 n ≡ true → eqb n 0 ≡ false
 some_by n h = ne_eqb n 0 (λ e. omega (arith, ltb-true 0 n h))
 
 module _ (ids : List ℕ) (card : Card) (kind : ℕ) (s : List ℕ) where
-  row_54 : ltb 0 (absences kind s) ≡ true → Refused 0x54 ≡ named_rows ids card kind s
+  row_54 : ltb 0 (absences kind s) ≡ true → Err 0x54 ≡ named_rows ids card kind s
   unfolding named_rows
   row_54 h = rw (some_by (absences kind s) h)
 
-  row_55 : ltb 0 (absences kind s) ≡ false → ltb 0 (length (faults kind s)) ≡ true → Refused 0x55 ≡ named_rows ids card kind s
+  row_55 : ltb 0 (absences kind s) ≡ false → ltb 0 (length (faults kind s)) ≡ true → Err 0x55 ≡ named_rows ids card kind s
   unfolding named_rows
   row_55 g h = rw (none-by (absences kind s) g, some_by (length (faults kind s)) h)
 
   -- something is missing or at fault
-  pub row-bad : (missing (rules_of kind) (items_of s) ≡ [] → faults kind s ≡ [] → ⊥) → Refused (cond (ltb 0 (absences kind s)) 0x54 0x55) ≡ named_rows ids card kind s
+  pub row-bad : (missing (rules_of kind) (items_of s) ≡ [] → faults kind s ≡ [] → ⊥) → Err (cond (ltb 0 (absences kind s)) 0x54 0x55) ≡ named_rows ids card kind s
   row-bad bad = by (ltb 0 (absences kind s)) refl
     where
       faulty : ltb 0 (absences kind s) ≡ false → (f : Bool) → ltb 0 (length (faults kind s)) ≡ f → f ≡ true
       faulty g true h = refl
       faulty g false h = absurd (bad (empty_by (missing (rules_of kind) (items_of s)) g) (empty_by (faults kind s) h))
 
-      by : (b : Bool) → ltb 0 (absences kind s) ≡ b → Refused (cond b 0x54 0x55) ≡ named_rows ids card kind s
+      by : (b : Bool) → ltb 0 (absences kind s) ≡ b → Err (cond b 0x54 0x55) ≡ named_rows ids card kind s
       by true g = row_54 g
       by false g = row_55 g (faulty g (ltb 0 (length (faults kind s))) refl)
 
@@ -95,15 +93,15 @@ pub located-by : {ids : List ℕ} {card : Card} {s : List ℕ} {named : ℕ} {te
 located-by {ids} {s = s} pool h e = record { port = e ∙ ap (λ (n : ℕ). port_named ids n s) (sym (ports_are h)); state = λ l. is_up h l refl }
 
 module _ (ids : List ℕ) (card : Card) (s : List ℕ) {named : ℕ} {up : Bool} (g : Located ids card s named up) where
-  pub port_unknown : 64 ≤ named → Refused 0x500 ≡ located card (port_of ids card.head.port_count (id_in s))
+  pub port_unknown : 64 ≤ named → Err 0x500 ≡ located card (port_of ids card.head.port_count (id_in s))
   unfolding located
   port_unknown l = rw (none_named ids card.head.port_count s g.port l)
 
-  pub port_up_lem : named < 64 → up ≡ true → Passed named ≡ located card (port_of ids card.head.port_count (id_in s))
+  pub port_up_lem : named < 64 → up ≡ true → Ok named ≡ located card (port_of ids card.head.port_count (id_in s))
   unfolding located
   port_up_lem l u = rw (is_named ids card.head.port_count s g.port l, g.state l, u)
 
-  pub port_down_lem : named < 64 → up ≡ false → Refused 0x6 ≡ located card (port_of ids card.head.port_count (id_in s))
+  pub port_down_lem : named < 64 → up ≡ false → Err 0x6 ≡ located card (port_of ids card.head.port_count (id_in s))
   unfolding located
   port_down_lem l u = rw (is_named ids card.head.port_count s g.port l, g.state l, u)
 
@@ -150,12 +148,12 @@ filled : {A : Type 0} (l : List A) → (length l ≡ 0 → ⊥) → l ≡ [] →
 filled l h e = h (ap length e)
 
 module _ (ids : List ℕ) (card : Card) (h : Header) (s : List ℕ) where
-  abbrev Tells : Verdict → Type 0
-  Tells (Refused code) = TableRefused ids card h s code
-  Tells (Passed p) = TablePassed ids card h s p
+  abbrev Tells : Result ℕ ℕ → Type 0
+  Tells (Err code) = TableRefused ids card h s code
+  Tells (Ok p) = TablePassed ids card h s p
 
   module _ (past : Sound h s) (whole : missing (rules_of h.kind) (items_of s) ≡ []) (faultless : faults h.kind s ≡ []) where
-    up-tells : (p : ℕ) → port_of ids card.head.port_count (id_in s) ≡ Some p → (b : Bool) → (port_at card p).up ≡ b → Tells (cond b (Passed p) (Refused 0x6))
+    up-tells : (p : ℕ) → port_of ids card.head.port_count (id_in s) ≡ Some p → (b : Bool) → (port_at card p).up ≡ b → Tells (cond b (Ok p) (Err 0x6))
     up-tells p e true u =
         let g = port_found ids card.head.port_count (id_in s) e in
         record {
@@ -178,7 +176,7 @@ module _ (ids : List ℕ) (card : Card) (h : Header) (s : List ℕ) where
     port_tells (Some p) e = up-tells p e (port_at card p).up refl
 
   named_tells : Sound h s → (a b : Bool) → eqb (absences h.kind s) 0 ≡ a → eqb (length (faults h.kind s)) 0 ≡ b
-      → Tells (cond a (cond b (located card (port_of ids card.head.port_count (id_in s))) (Refused 0x55)) (Refused 0x54))
+      → Tells (cond a (cond b (located card (port_of ids card.head.port_count (id_in s))) (Err 0x55)) (Err 0x54))
   named_tells past true true ha hb =
       port_tells past (empty _ (eqb-true _ _ ha)) (empty _ (eqb-true _ _ hb)) (port_of ids card.head.port_count (id_in s)) refl
   named_tells past true false ha hb = faulty past (empty _ (eqb-true _ _ ha)) (filled _ (eqb-false _ _ hb))
@@ -186,7 +184,7 @@ module _ (ids : List ℕ) (card : Card) (h : Header) (s : List ℕ) where
 
   rows_tell : (a b c d : Bool) → handled h.kind ≡ a → result_ok h.kind h.result ≡ b → transaction_ok h.kind h.transaction ≡ c
       → list_ok (depth_of h.result) false s ≡ d
-      → Tells (cond a (cond b (cond c (cond d (named_rows ids card h.kind s) (Refused 0x53)) (Refused 0x2)) (Refused 0x2)) (Refused 0x51))
+      → Tells (cond a (cond b (cond c (cond d (named_rows ids card h.kind s) (Err 0x53)) (Err 0x2)) (Err 0x2)) (Err 0x51))
   unfolding named_rows
   rows_tell true true true true ha hb hc hd = named_tells (record { known = ha; result = hb; numbered = hc; sound = hd }) _ _ refl refl
   rows_tell true true true false ha hb hc hd = broken ha hb hc hd
@@ -198,16 +196,16 @@ module _ (ids : List ℕ) (card : Card) (h : Header) (s : List ℕ) where
   unfolding table_of
   tells = rows_tell _ _ _ _ refl refl refl refl
 
-  pub passed-tells : {p : ℕ} → table_of ids card h s ≡ Passed p → TablePassed ids card h s p
+  pub passed-tells : {p : ℕ} → table_of ids card h s ≡ Ok p → TablePassed ids card h s p
   passed-tells e = rw e at tells
 
-  pub passed_named : {p : ℕ} → table_of ids card h s ≡ Passed p → port_named ids card.head.port_count s ≡ p
+  pub passed_named : {p : ℕ} → table_of ids card h s ≡ Ok p → port_named ids card.head.port_count s ≡ p
   unfolding port_named number_of
   passed_named e = ap number_of (passed-tells e).found
 
-  pub refused-tells : {code : ℕ} → table_of ids card h s ≡ Refused code → TableRefused ids card h s code
+  pub refused-tells : {code : ℕ} → table_of ids card h s ≡ Err code → TableRefused ids card h s code
   refused-tells e = rw e at tells
 
-  pub passes : {p : ℕ} → TablePassed ids card h s p → table_of ids card h s ≡ Passed p
+  pub passes : {p : ℕ} → TablePassed ids card h s p → table_of ids card h s ≡ Ok p
   unfolding table_of named_rows located
   passes t = rw (t.known, t.result, t.numbered, t.sound, t.whole, t.faultless, t.found, t.up)

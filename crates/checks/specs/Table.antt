@@ -1,7 +1,7 @@
 -- The table of result codes (CARD.md, "A message, check by check"): row by row, each over the whole message before the
 -- next, and what the Status-Info of each encloses. s is what follows the header. Assumes nothing: these are
 -- definitions.
-use Rattle.std.specs.Prelude.{ℕ, ◌<◌, ◌≡◌, Bool, false, cond, ◌||◌, List, [], ◌∷◌, length, eqb, Option, Some, None}
+use Rattle.std.specs.Prelude.{ℕ, ◌<◌, ◌≡◌, Bool, false, cond, ◌||◌, List, [], ◌∷◌, length, eqb, Option, Some, None, Result, Ok, Err}
 use Rattle.header.specs.declared.Header.{Header}
 use Rattle.tlv.specs.Depth.{depth_of, list_ok}
 use Rattle.items.specs.Items.{Item, items_of, first_of}
@@ -12,8 +12,6 @@ use Rattle.rules.specs.Rules.{handled, result_ok, transaction_ok, rules_of}
 use Rattle.rules.specs.Named.{missing, bares, from_fault}
 use Rattle.circuits.specs.Circuits.{port_of}
 use Rattle.card.specs.Cards.{Card, port_at}
-use Rattle.checks.specs.declared.Verdict.{Verdict}
-use Rattle.checks.specs.declared.Verdict.TheVariants.{Refused, Passed}
 
 -- ---- when
 
@@ -36,35 +34,35 @@ pub record Located (ids : List ℕ) (card : Card) (s : List ℕ) (named : ℕ) (
   pub state : named < 64 → (port_at card named).up ≡ up
 
 -- port unknown, port down
-unfoldable pub located : Card → Option ℕ → Verdict
-located card None = Refused 0x500
-located card (Some p) = cond (port_at card p).up (Passed p) (Refused 0x6)
+unfoldable pub located : Card → Option ℕ → Result ℕ ℕ
+located card None = Err 0x500
+located card (Some p) = cond (port_at card p).up (Ok p) (Err 0x6)
 
 -- the TLVs from the first one at fault on, in a message of a type
 abbrev pub faults : ℕ → List ℕ → List Item
 faults kind s = from_fault (rules_of kind) [] (items_of s)
 
 -- the rows about TLVs: 0x54, 0x55, and then the port
-unfoldable pub named_rows : List ℕ → Card → ℕ → List ℕ → Verdict
+unfoldable pub named_rows : List ℕ → Card → ℕ → List ℕ → Result ℕ ℕ
 named_rows ids card kind s =
     cond (eqb (length (missing (rules_of kind) (items_of s))) 0)
     (cond (eqb (length (faults kind s)) 0)
     (located card (port_of ids card.head.port_count (id_in s)))
-    (Refused 0x55))
-    (Refused 0x54)
+    (Err 0x55))
+    (Err 0x54)
 
 -- 0x51; 0x2 for the Result and then for transaction 0; 0x53; and then the others
-unfoldable pub table_of : List ℕ → Card → Header → List ℕ → Verdict
+unfoldable pub table_of : List ℕ → Card → Header → List ℕ → Result ℕ ℕ
 table_of ids card h s =
     cond (handled h.kind)
     (cond (result_ok h.kind h.result)
     (cond (transaction_ok h.kind h.transaction)
     (cond (list_ok (depth_of h.result) false s)
     (named_rows ids card h.kind s)
-    (Refused 0x53))
-    (Refused 0x2))
-    (Refused 0x2))
-    (Refused 0x51)
+    (Err 0x53))
+    (Err 0x2))
+    (Err 0x2))
+    (Err 0x51)
 
 -- the fields of a header that the rows read
 pub record HasFields (h : Header) (kind result transaction : ℕ) : Type 0 where

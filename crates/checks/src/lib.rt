@@ -13,16 +13,7 @@ ghost use Rattle.checks.specs.Table.{id_in, port_named, HasFields, Located, loca
 
 use fields::TARGET;
 use header::Header;
-use rules::Extent;
 use tlv::First;
-
-#[derive(Clone, Copy)]
-pub enum Verdict {
-    // The result code of the row that refuses the message.
-    Refused(u16),
-    // The port that the message names, which is up.
-    Passed(u8),
-}
 
 // The port whose circuit id stands in the message's Target; 64 where it is no port's.
 pub fn port_named(ids: &[u8; 4096], port_count: usize, tlvs: &[u8]) -> usize
@@ -35,6 +26,8 @@ pub fn port_named(ids: &[u8; 4096], port_count: usize, tlvs: &[u8]) -> usize
     }
 }
 
+// What the rows give: the port that the message names, which is up; or the result code of the row that refuses the
+// message. A code is a number: `put_refused` answers any.
 // `named` is what `port_named` gave, and `up` tells whether that port is up; then the fields of the header that the rows
 // read, one by one: a struct would be stored to be read again.
 pub fn check_table(
@@ -44,31 +37,30 @@ pub fn check_table(
     res: u8,
     transaction: u32,
     tlvs: &[u8],
-) -> Verdict
+) -> Result<u8, u16>
     ensures { (ids : List ℕ) (card : Card) (h : Header) → HasFields h kind res transaction → Located ids card tlvs.now named up → result ≡ table_of ids card h tlvs.now }
 {
     if !rules::handled(kind) {
-        return Verdict::Refused(0x51);
+        return Err(0x51);
     }
     if !rules::result_ok(kind, res) {
-        return Verdict::Refused(0x2);
+        return Err(0x2);
     }
     if !rules::transaction_ok(kind, transaction) {
-        return Verdict::Refused(0x2);
+        return Err(0x2);
     }
     if !tlv::check_list(tlvs, tlv::depth_of(res), false) {
-        return Verdict::Refused(0x53);
+        return Err(0x53);
     }
     check_named(named, up, kind, tlvs)
 }
 
-fn check_named(named: usize, up: bool, kind: u8, tlvs: &[u8]) -> Verdict
+fn check_named(named: usize, up: bool, kind: u8, tlvs: &[u8]) -> Result<u8, u16>
     ensures { (ids : List ℕ) (card : Card) → Located ids card tlvs.now named up → result ≡ named_rows ids card kind tlvs.now }
 {
-    let extent = rules::extent_of(kind, tlvs);
-    match extent {
-        Extent::All => check_port(named, up),
-        Extent::UpTo(_) => Verdict::Refused(named_code(kind, tlvs)),
+    match rules::extent_of(kind, tlvs) {
+        None => check_port(named, up),
+        Some(_) => Err(named_code(kind, tlvs)),
     }
 }
 
@@ -82,16 +74,16 @@ fn named_code(kind: u8, tlvs: &[u8]) -> u16
     0x55
 }
 
-fn check_port(named: usize, up: bool) -> Verdict
+fn check_port(named: usize, up: bool) -> Result<u8, u16>
     ensures { (ids : List ℕ) (card : Card) (s : List ℕ) → Located ids card s named up → result ≡ located card (port_of ids card.head.port_count (id_in s)) }
 {
     if 64 <= named {
-        return Verdict::Refused(0x500);
+        return Err(0x500);
     }
     if up {
-        return Verdict::Passed(named as u8);
+        return Ok(named as u8);
     }
-    Verdict::Refused(0x6)
+    Err(0x6)
 }
 
 // The circuit id of the message's Target; empty where there is none.

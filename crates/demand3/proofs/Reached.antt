@@ -11,6 +11,7 @@ use native.Mathlib.Omega.{arith}
 use lib.ListN.{length, drop, length-append}
 use lib.Dec.{eqb}
 use borrow.Author.Tests.{eq-eqb, ne_eqb, le-ltb, lt-ltb}
+use Rattle.std.specs.Prelude.{Ok, Err}
 use Rattle.octets.proofs.Tests.{taken, left}
 use Rattle.header.specs.declared.Header.{Header}
 use Rattle.header.specs.Header.{header_in, head_in}
@@ -19,7 +20,6 @@ use Rattle.tlv.specs.Depth.{depth_of}
 use Rattle.items.specs.Items.{Item, items_of, of_type, count_of}
 use Rattle.circuits.specs.Circuits.{port_of}
 use Rattle.card.specs.Cards.{Card}
-use Rattle.checks.specs.declared.Verdict.TheVariants.{Refused, Passed}
 use Rattle.rules.specs.Rules.{handled, result_ok, transaction_ok, rule, rules_of, is_among, rules_among}
 use Rattle.rules.specs.Named.{lacks, missing, stood, at_fault}
 use Rattle.rules.proofs.Faults.{no_fault_lem, commands-free}
@@ -37,7 +37,7 @@ use Rattle.demand3.proofs.Views.{port_below}
 
 -- ---- past the table
 module _ (ids channels : List ℕ) (card : Card) (h : Header) (s : List ℕ) (p : ℕ) where
-  carried_out_lem : (h.kind ≡ 147 → ⊥) → is_answer h.result ≡ false → is_notice h ≡ false → table_of ids card h s ≡ Passed p
+  carried_out_lem : (h.kind ≡ 147 → ⊥) → is_answer h.result ≡ false → is_notice h ≡ false → table_of ids card h s ≡ Ok p
       → by_result ids channels card h s ≡ by_type ids channels card h s p
   unfolding by_result requested
   carried_out_lem other n z v =
@@ -60,12 +60,12 @@ module _ (t : Tables) (card : Card) (l : Ledger) (a : Agree t card l) (m : List 
   some_target e = omega (arith, r.target)
 
   module _ (up : (l p).is_up ≡ true) where
-    located_there : located card (port_of t.ids card.head.port_count (id_in s)) ≡ Passed p
+    located_there : located card (port_of t.ids card.head.port_count (id_in s)) ≡ Ok p
     unfolding located port_in
     located_there =
         ap (λ (n : ℕ). located card (port_of t.ids n (id_in s))) a.ports
         ∙ ap (located card) r.port
-        ∙ ap (λ (b : Bool). cond b (Passed p) (Refused 0x6)) ((a.at p sound_below.1).is_up ∙ up)
+        ∙ ap (λ (b : Bool). cond b (Ok p) (Err 0x6)) ((a.at p sound_below.1).is_up ∙ up)
 
     module _ (complete : length (missing (rules_of kind) (items_of s)) ≡ 0) (faultless : faults kind s ≡ []) where
       is_numbered : (kind ≡ 147 → ⊥) → transaction_ok kind (header_in m).transaction ≡ true
@@ -73,7 +73,7 @@ module _ (t : Tables) (card : Card) (l : Ledger) (a : Agree t card l) (m : List 
       is_numbered other = rw (ne_eqb kind 147 other) (lt-ltb 0 (header_in m).transaction r.transaction)
 
       passed : handled kind ≡ true → result_ok kind (result_in m) ≡ true → (kind ≡ 147 → ⊥) → depth_of (result_in m) ≡ 3
-          → table_of t.ids card (header_in m) s ≡ Passed p
+          → table_of t.ids card (header_in m) s ≡ Ok p
       unfolding table_of named_rows kind_in result_in
       passed known ok other depth =
           rw r.is_kind

@@ -2,7 +2,6 @@
 --     port_below   a port that is found is below the count, and below 64
 --     Came, came   the kinds of answer, and that there are no others
 -- Assumes nothing.
-use Rattle.std.specs.Prelude.{Some, None}
 use Prim.Native.Nat.{ℕ, ◌<◌}
 use mathlib.Core.Path.{◌≡◌, refl}
 use mathlib.Core.Bool.{Bool, true, false, cond, false≢true, ◌&&◌, ◌||◌}
@@ -11,6 +10,7 @@ use native.Mathlib.Omega.{arith}
 use lib.ListN.{drop}
 use lib.Dec.{eqb, ltb}
 use borrow.Author.Tests.{eqb-true, eqb-false, ne_eqb}
+use Rattle.std.specs.Prelude.{Some, None, Result, Ok, Err}
 use Rattle.octets.proofs.Tests.{both}
 use Rattle.header.specs.declared.Header.{Header}
 use Rattle.header.specs.Header.{size_ok, usable, header_in, head_in}
@@ -20,8 +20,6 @@ use Rattle.circuits.specs.Circuits.{id_at, port_of}
 use Rattle.circuits.proofs.Circuits.{port_found}
 use Rattle.card.specs.Cards.{Card, port_at}
 use Rattle.card.specs.Outcome.{Outcome, keeps, writes}
-use Rattle.checks.specs.declared.Verdict.{Verdict}
-use Rattle.checks.specs.declared.Verdict.TheVariants.{Refused, Passed}
 use Rattle.rules.specs.Rules.{handled, is_among}
 use Rattle.checks.specs.Table.{table_of, refused_of}
 use Rattle.checks.proofs.Rows.{TablePassed, passed-tells}
@@ -88,10 +86,10 @@ module _ (ids channels : List ℕ) (card : Card) (m : List ℕ) where
       (λ g. queried _ query (kind-amount head head.kind 3 0 (id_at ids p) (port_at card p).delegation))
       (λ g. queried _ query (kind-flows head (id_at ids p) channels (rows_in_order channels card.pool p)))))
 
-  came-requested : Other head.kind 147 → (v : Verdict) → table_of ids card head rest ≡ v → Came (requested ids channels card head rest v)
+  came-requested : Other head.kind 147 → (v : Result ℕ ℕ) → table_of ids card head rest ≡ v → Came (requested ids channels card head rest v)
   unfolding requested
-  came-requested n (Refused code) e = refused code n
-  came-requested n (Passed p) e = came_type p n (passed-tells ids card head rest e)
+  came-requested n (Err code) e = refused code n
+  came-requested n (Ok p) e = came_type p n (passed-tells ids card head rest e)
 
   not_zero : (code : ℕ) → Other (refused_number code) 0
   unfolding refused_number
@@ -101,10 +99,10 @@ module _ (ids channels : List ℕ) (card : Card) (m : List ℕ) where
       go true e = omega arith
       go false e = omega arith
 
-  came-offered : head.kind ≡ 147 → is_answer head.result ≡ true → (v : Verdict) → table_of ids card head rest ≡ v → Came (offered card head rest v)
+  came-offered : head.kind ≡ 147 → is_answer head.result ≡ true → (v : Result ℕ ℕ) → table_of ids card head rest ≡ v → Came (offered card head rest v)
   unfolding offered
-  came-offered k a (Refused code) e = kept (refused_number code) (not_zero code)
-  came-offered k a (Passed p) e = answered p k a (passed-tells ids card head rest e)
+  came-offered k a (Err code) e = kept (refused_number code) (not_zero code)
+  came-offered k a (Ok p) e = answered p k a (passed-tells ids card head rest e)
 
   came_result : Came (by_result ids channels card head rest)
   unfolding by_result is_notice

@@ -7,7 +7,6 @@
 --     answer-taken, ..           by type and Result
 --     verdict_requested, of_144, ..   a request, by what the table gives and by type
 -- Assumes nothing.
-use Rattle.std.specs.Prelude.{Option, Some, None}
 use mathlib.Core.Path.{◌≡◌, refl, sym, ap, subst, ◌∙◌}
 use mathlib.Core.Bool.{Bool, true, false, cond}
 use mathlib.Core.List.{List, [], ◌∷◌}
@@ -16,6 +15,7 @@ use native.Mathlib.Omega.{arith}
 use lib.ListN.{length, drop, length-drop}
 use lib.Dec.{eqb, ltb, leb}
 use borrow.Author.Tests.{leb-true}
+use Rattle.std.specs.Prelude.{Option, Some, None, Result, Ok}
 use Rattle.octets.proofs.Tests.{each}
 use Rattle.header.specs.declared.Header.{Header}
 use Rattle.header.specs.Header.{size_ok, usable, header_in, head_in}
@@ -29,8 +29,6 @@ use Rattle.card.specs.Cards.{Card, with_pool}
 use Rattle.card.specs.declared.Terms.{Terms}
 use Rattle.card.specs.Outcome.{Outcome, keeps}
 use Rattle.card.specs.Parts.{HasTerms}
-use Rattle.checks.specs.declared.Verdict.{Verdict}
-use Rattle.checks.specs.declared.Verdict.TheVariants.{Passed}
 use Rattle.checks.specs.Table.{id_in, number_of, port_named, table_of}
 use Rattle.checks.proofs.Rows.{passed-tells, passed_named, located-by}
 use Rattle.control.specs.Control.{controlled}
@@ -120,18 +118,18 @@ module _ (ids channels : List ℕ) (card : Card) (m : List ℕ) (space : ℕ) wh
 -- ---- the table, on a card with these terms; p is the port that the Target names
 module _ (ids s : List ℕ) {card : Card} {p : ℕ} {terms : Terms} (pool : Pool) (g : HasTerms card p terms) (e : p ≡ port_named ids terms.head.port_count s) where
   -- a message that passes is about the port at the terms' place
-  pub passed-at : (h : Header) {q : ℕ} → table_of ids (with_pool card pool) h s ≡ Passed q → q ≡ terms.at
+  pub passed-at : (h : Header) {q : ℕ} → table_of ids (with_pool card pool) h s ≡ Ok q → q ≡ terms.at
   passed-at h {q} t =
       let named : p ≡ q = (located-by pool g e).port ∙ passed_named ids (with_pool card pool) h s t in
       sym (g.place (subst (λ (n : ℕ). n < 64) (sym named) (passed-tells ids (with_pool card pool) h s t).small) ∙ named)
 
 -- ---- a transfer; v is what the table gives, s what follows the header
-pub verdict_offered : (card : Card) (h : Header) (s : List ℕ) {t x v : Verdict} → x ≡ t → x ≡ v → offered card h s v ≡ offered card h s t
+pub verdict_offered : (card : Card) (h : Header) (s : List ℕ) {t x v : Result ℕ ℕ} → x ≡ t → x ≡ v → offered card h s v ≡ offered card h s t
 verdict_offered card h s e g = ap (offered card h s) (sym g ∙ e)
 
 -- ---- type and Result
 module _ (ids channels : List ℕ) (card : Card) (h : Header) (s : List ℕ) where
-  abbrev table : Verdict
+  abbrev table : Result ℕ ℕ
   table = table_of ids card h s
 
   abbrev result : Outcome
@@ -161,7 +159,7 @@ module _ (ids channels : List ℕ) (card : Card) (h : Header) (s : List ℕ) whe
       request_checked t = rw (other, request, t)
 
   -- v is what the table gives
-  pub verdict_requested : {x v : Verdict} → x ≡ table → x ≡ v → requested ids channels card h s v ≡ requested ids channels card h s table
+  pub verdict_requested : {x v : Result ℕ ℕ} → x ≡ table → x ≡ v → requested ids channels card h s v ≡ requested ids channels card h s table
   verdict_requested e g = ap (requested ids channels card h s) (sym g ∙ e)
 
   -- past the table

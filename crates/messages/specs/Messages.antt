@@ -1,14 +1,12 @@
 -- What a message m that is handed in comes to (CARD.md, "A message, check by check"). Assumes nothing: these are
 -- definitions.
-use Rattle.std.specs.Prelude.{ℕ, Bool, cond, ◌&&◌, ◌||◌, List, drop, eqb, ltb, Option, None, Some}
+use Rattle.std.specs.Prelude.{ℕ, Bool, cond, ◌&&◌, ◌||◌, List, drop, eqb, ltb, Option, None, Some, Result, Ok, Err}
 use Rattle.header.specs.declared.Header.{Header}
 use Rattle.header.specs.Header.{size_ok, head_in}
 use Rattle.items.specs.Items.{items_of, first_of}
 use Rattle.fields.specs.Fields.{allocation_in, request_in}
 use Rattle.card.specs.Cards.{Card}
 use Rattle.card.specs.Outcome.{Outcome, keeps, writes}
-use Rattle.checks.specs.declared.Verdict.{Verdict}
-use Rattle.checks.specs.declared.Verdict.TheVariants.{Refused, Passed}
 use Rattle.checks.specs.Table.{port_named, table_of, refused_of}
 use Rattle.control.specs.Control.{controlled}
 use Rattle.transfers.specs.Transfers.{reallocated, transferred}
@@ -31,17 +29,17 @@ by_type ids channels card h s p =
     (flow_query ids channels card h p)))
 
 -- a row's refusal is answered, and the call returns 0
-unfoldable pub requested : List ℕ → List ℕ → Card → Header → List ℕ → Verdict → Outcome
-requested ids channels card h s (Refused code) = writes card (refused_of h s code)
-requested ids channels card h s (Passed p) = by_type ids channels card h s p
+unfoldable pub requested : List ℕ → List ℕ → Card → Header → List ℕ → Result ℕ ℕ → Outcome
+requested ids channels card h s (Err code) = writes card (refused_of h s code)
+requested ids channels card h s (Ok p) = by_type ids channels card h s p
 
 -- "For 147 these faults return 15, port faults 16"
 unfoldable pub refused_number : ℕ → ℕ
 refused_number code = cond (eqb code 0x500 || eqb code 0x6) 16 15
 
-unfoldable pub offered : Card → Header → List ℕ → Verdict → Outcome
-offered card h s (Refused code) = keeps card (refused_number code)
-offered card h s (Passed p) = transferred card h p (allocation_in (first_of 0x0015 (items_of s)))
+unfoldable pub offered : Card → Header → List ℕ → Result ℕ ℕ → Outcome
+offered card h s (Err code) = keeps card (refused_number code)
+offered card h s (Ok p) = transferred card h p (allocation_in (first_of 0x0015 (items_of s)))
 
 -- "Type 147 needs Result 3 or 4 (else 15); any other type with Result 3 or 4 is 15 and unanswered. Type 144 with Result 0 is the
 -- server's reject notice: 0, reply length 0, nothing changed." Then the table

@@ -8,7 +8,6 @@ ghost use Rattle.checks.specs.Table.{port_named, table_of};
 ghost use Rattle.messages.specs.Messages.{is_answer, is_notice, by_type, requested, refused_number, offered, by_result, received_of, named_in};
 
 use card::{Effect, Terms, unchanged};
-use checks::Verdict;
 use fields::{ALLOCATION, REQUEST};
 use header::Header;
 use pool::Pool;
@@ -121,8 +120,8 @@ fn offered(terms: Terms, p: usize, h: Header, tlvs: &[u8]) -> Effect
     let x = terms.port;
     let verdict = checks::check_table(p, x.up, h.kind, h.result, h.transaction, tlvs);
     match verdict {
-        Verdict::Refused(code) => unchanged(terms, refused_number(code)),
-        Verdict::Passed(_) => {
+        Err(code) => unchanged(terms, refused_number(code)),
+        Ok(_) => {
             let amount = fields::allocation_in(items::first_of(tlvs, ALLOCATION));
             transfers::transfer(terms, h, amount)
         }
@@ -163,11 +162,11 @@ fn requested(
     let x = terms.port;
     let verdict = checks::check_table(p, x.up, h.kind, h.result, h.transaction, tlvs);
     match verdict {
-        Verdict::Refused(code) => {
+        Err(code) => {
             let n = checks::put_refused(reply, h, tlvs, code);
             card::changed(terms, Change::Kept, n)
         }
-        Verdict::Passed(_) => by_type(
+        Ok(_) => by_type(
             owner, channel, charged, accounting, ids, channels, terms, h, tlvs, reply,
         ),
     }

@@ -1,5 +1,4 @@
 -- What a message that is handed in comes to, by cases, check by check: no reply, or an answer. Assumes nothing.
-use Rattle.std.specs.Prelude.{Option, Some, None}
 use mathlib.Core.Path.{◌≡◌, refl, sym, ap, ◌∙◌}
 use mathlib.Core.Logic.{◌⊎◌, inl, inr, ⊎_elim}
 use mathlib.Core.List.{List, [], ◌∷◌, ◌++◌, append_assoc}
@@ -9,6 +8,7 @@ use native.Mathlib.Omega.{arith}
 use lib.ListN.{length, drop, length-drop}
 use lib.Dec.{eqb, ltb, leb}
 use borrow.Author.Tests.{eqb-true, eqb-false, leb-true}
+use Rattle.std.specs.Prelude.{Option, Some, None, Result, Ok, Err}
 use Rattle.octets.proofs.Tests.{each}
 use Rattle.header.specs.declared.Header.{Header}
 use Rattle.header.specs.Header.{size_ok, usable, header_in, head_in}
@@ -23,8 +23,6 @@ use Rattle.ports.specs.Ports.{answers, within}
 use Rattle.pool.specs.Pool.{committed_of}
 use Rattle.card.specs.Cards.{Card, port_at}
 use Rattle.card.specs.Outcome.{Outcome, writes}
-use Rattle.checks.specs.declared.Verdict.{Verdict}
-use Rattle.checks.specs.declared.Verdict.TheVariants.{Refused, Passed}
 use Rattle.rules.specs.Rules.{handled, result_ok, transaction_ok, rules_of}
 use Rattle.rules.specs.Named.{missing}
 use Rattle.rules.proofs.Faults.{one-circuit}
@@ -58,10 +56,10 @@ module _ (m : List ℕ) (card : Card) (h : Header) where
       (λ _. by_cond (Replies m) (within (port_at card p) amount) _ _ (λ _. silent refl) (λ _. silent refl)))
       (λ _. silent refl)
 
-  offer_silent : (s : List ℕ) (v : Verdict) → Replies m (offered card h s v)
+  offer_silent : (s : List ℕ) (v : Result ℕ ℕ) → Replies m (offered card h s v)
   unfolding offered
-  offer_silent s (Refused code) = silent refl
-  offer_silent s (Passed p) = transfer_silent p _
+  offer_silent s (Err code) = silent refl
+  offer_silent s (Ok p) = transfer_silent p _
 
 -- ---- a message of a size that may be handed in
 module _ (m : List ℕ) (octets : Octets m) (lo : 16 ≤ length m) (hi : length m ≤ 4096) where
@@ -160,15 +158,15 @@ module _ (m : List ℕ) (octets : Octets m) (lo : 16 ≤ length m) (hi : length 
 
   -- ---- the table
   module _ (ids channels : List ℕ) (card : Card) where
-    Row : Verdict → Type 0
+    Row : Result ℕ ℕ → Type 0
     Row v = Replies m (requested ids channels card h s v)
 
     row : (code : ℕ) {is : List Item} → Says (refused_of h s code) (reply_header h 91 4 code) is → length (refused_of h s code) ≤ 24 + max 8 (length s)
-        → Row (Refused code)
+        → Row (Err code)
     unfolding Row requested
     row code y l = answered _ (inr refl) y (omega arith)
 
-    fault-answers : list_ok 3 false s ≡ true → (is : List Item) → faults h.kind s ≡ is → eqb (length is) 0 ≡ false → Row (Refused 0x55)
+    fault-answers : list_ok 3 false s ≡ true → (is : List Item) → faults h.kind s ≡ is → eqb (length is) 0 ≡ false → Row (Err 0x55)
     fault-answers ok [] e z = absurd (eqb-false (length {A = Item} []) 0 z refl)
     fault-answers ok (i ∷ is) e z =
         row 0x55 ((kinds_back.rows h s transaction-fits).fault i is ok e).says (omega (arith, (sizes.rows h s).fault))

@@ -13,10 +13,9 @@ use lib.ListN.{length, take, drop, get_or, set, replicate}
 use lib.Seq.{get_or-set_same, get_or-set_other}
 use lib.Dec.{eqb, ltb}
 use borrow.Author.Tests.{ltb-true, ltb-false, eqb-true, eqb-false, eq-eqb, ne_eqb}
+use Rattle.std.specs.Prelude.{Option, Some, None}
 use Rattle.items.specs.Items.{Item, items_of, of_type, count_of}
 use Rattle.rules.specs.declared.Rule.{Rule}
-use Rattle.rules.specs.declared.Extent.{Extent}
-use Rattle.rules.specs.declared.Extent.TheVariants.{All, UpTo}
 use Rattle.rules.specs.Named.{missing, content_ok, stood, at_fault, from_fault, place_of, HasExtent}
 use Rattle.rules.proofs.Named.{none, rules_cons, rules-past, Marked}
 
@@ -208,24 +207,24 @@ empty_by (x ∷ l) h = absurd (omega (arith, ltb-false 0 (length (x ∷ l)) h))
 
 module _ (rs : List Rule) (s : List ℕ) (at : ℕ) (fit : at ≤ length s) where
   -- up to a TLV at fault
-  pub extent_fault : {i : Item} {is : List Item} → items_of (drop at s) ≡ i ∷ is → from_fault rs [] (items_of s) ≡ i ∷ is → HasExtent rs s (UpTo at)
+  pub extent_fault : {i : Item} {is : List Item} → items_of (drop at s) ≡ i ∷ is → from_fault rs [] (items_of s) ≡ i ∷ is → HasExtent rs s (Some at)
   unfolding HasExtent
   extent_fault e f = (fit, e ∙ sym f, λ m g. omega (arith, ap length f, ap length g))
 
   -- to the end of them, by what is missing
-  pub extent_last : (b : Bool) → ltb 0 (length (missing rs (items_of s))) ≡ b → items_of (drop at s) ≡ [] → from_fault rs [] (items_of s) ≡ [] → HasExtent rs s (cond b (UpTo at) All)
+  pub extent_last : (b : Bool) → ltb 0 (length (missing rs (items_of s))) ≡ b → items_of (drop at s) ≡ [] → from_fault rs [] (items_of s) ≡ [] → HasExtent rs s (cond b (Some at) None)
   unfolding HasExtent
   extent_last true m e f = (fit, e ∙ sym f, λ n g. omega (arith, ltb-true 0 (length (missing rs (items_of s))) m, ap length n))
   extent_last false m e f = (empty_by (missing rs (items_of s)) m, f)
 
 -- what is known by it
-module _ (rs : List Rule) (s : List ℕ) {r : Extent} (has : HasExtent rs s r) where
-  pub extent_all : r ≡ All → (missing rs (items_of s) ≡ []) × (from_fault rs [] (items_of s) ≡ [])
+module _ (rs : List Rule) (s : List ℕ) {r : Option ℕ} (has : HasExtent rs s r) where
+  pub extent_all : r ≡ None → (missing rs (items_of s) ≡ []) × (from_fault rs [] (items_of s) ≡ [])
   unfolding HasExtent
   extent_all e = subst (HasExtent rs s) e has
 
-  module _ {at : ℕ} (e : r ≡ UpTo at) where
-    up_to : HasExtent rs s (UpTo at)
+  module _ {at : ℕ} (e : r ≡ Some at) where
+    up_to : HasExtent rs s (Some at)
     up_to = subst (HasExtent rs s) e has
 
     pub extent_fits : at ≤ length s

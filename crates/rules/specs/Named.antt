@@ -1,12 +1,10 @@
 -- What is missing, and what is at fault, among the TLVs that a message's rules name. Assumes nothing: these are
 -- definitions.
-use Rattle.std.specs.Prelude.{ℕ, suc, ◌≤◌, ◌≡◌, Bool, false, cond, not, ◌&&◌, ◌||◌, List, [], ◌∷◌, ◌++◌, length, drop, eqb}
+use Rattle.std.specs.Prelude.{ℕ, suc, ◌≤◌, ◌≡◌, Bool, false, cond, not, ◌&&◌, ◌||◌, List, [], ◌∷◌, ◌++◌, length, drop, eqb, Option, Some, None}
 use Rattle.items.specs.Items.{Item, items_of, count_of}
 use Rattle.fields.specs.Fields.{circuit_ids, length_ok}
 use Rattle.writers.specs.Tlvs.{bare_of}
 use Rattle.rules.specs.declared.Rule.{Rule}
-use Rattle.rules.specs.declared.Extent.{Extent}
-use Rattle.rules.specs.declared.Extent.TheVariants.{All, UpTo}
 
 -- ---- 0x54
 -- the rule needs a TLV, and none stands
@@ -55,7 +53,7 @@ place_of t (r ∷ rs) = cond (eqb t r.kind) 0 (suc (place_of t rs))
 
 -- how far the TLVs s are as the rules ask: all of them, where nothing is missing and nothing at fault; or up to a place,
 -- where something is, and from there on stand those from the first one at fault on
-unfoldable pub HasExtent : List Rule → List ℕ → Extent → Type 0
-HasExtent rs s All = (missing rs (items_of s) ≡ []) × (from_fault rs [] (items_of s) ≡ [])
-HasExtent rs s (UpTo at) =
+unfoldable pub HasExtent : List Rule → List ℕ → Option ℕ → Type 0
+HasExtent rs s None = (missing rs (items_of s) ≡ []) × (from_fault rs [] (items_of s) ≡ [])
+HasExtent rs s (Some at) =
     (at ≤ length s) × (items_of (drop at s) ≡ from_fault rs [] (items_of s)) × (missing rs (items_of s) ≡ [] → from_fault rs [] (items_of s) ≡ [] → ⊥)

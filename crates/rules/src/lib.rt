@@ -6,7 +6,6 @@ ghost use Rattle.std.specs.Prelude.{◌≡◌, cond, not, ◌&&◌, ◌||◌, []
 ghost use Rattle.octets.specs.Writing.{Wrote};
 ghost use Rattle.items.specs.Items.{items_of, count_of};
 ghost use Rattle.rules.specs.Rules.{handled, result_ok, transaction_ok, rules_of, Filled, rule_at, rules_in};
-ghost use Rattle.rules.specs.declared.Extent.TheVariants.{All, UpTo};
 ghost use Rattle.rules.specs.Named.{lacks, missing, bares, content_ok, from_fault, place_of, HasExtent};
 
 use fields::{ALLOCATION, COMMAND, REQUEST, TARGET};
@@ -202,22 +201,16 @@ fn put_if_missing(buf: &mut [u8], r: Rule, tlvs: &[u8]) -> usize
 
 // ---- what is at fault
 
-// How far a message's TLVs are as its rules ask: all of them, and none is missing; or up to a place, that of the first
-// TLV at fault, or where they end if none is at fault and one is missing.
-#[derive(Clone, Copy)]
-pub enum Extent {
-    All,
-    UpTo(usize),
-}
-
-pub fn extent_of(kind: u8, tlvs: &[u8]) -> Extent
+// How far a message's TLVs are as its rules ask: none where all of them are, and none is missing; else a place, that of
+// the first TLV at fault, or where they end if none is at fault and one is missing.
+pub fn extent_of(kind: u8, tlvs: &[u8]) -> Option<usize>
     ensures { HasExtent (rules_of kind) tlvs.now result }
 {
     extent_by(rules_of(kind), tlvs)
 }
 
 // A rule is `seen` once a TLV of its type has stood.
-fn extent_by(rules: Rules, tlvs: &[u8]) -> Extent
+fn extent_by(rules: Rules, tlvs: &[u8]) -> Option<usize>
     requires { Filled rules }
     ensures { HasExtent (rules_in rules) tlvs.now result }
 {
@@ -241,7 +234,7 @@ fn extent_by(rules: Rules, tlvs: &[u8]) -> Extent
                 let b = at + 4;
                 let e = b + len;
                 if is_fault(single[j], seen[j], kind, &tlvs[b..e]) {
-                    return Extent::UpTo(at);
+                    return Some(at);
                 }
                 seen[j] = true;
                 at = step.next;
@@ -255,28 +248,27 @@ fn extent_by(rules: Rules, tlvs: &[u8]) -> Extent
         }
         i += 1;
     }
-    Extent::All
+    None
 }
 
 // Where none is at fault, by what is missing.
-fn extent_end(rules: Rules, tlvs: &[u8], at: usize) -> Extent
+fn extent_end(rules: Rules, tlvs: &[u8], at: usize) -> Option<usize>
     requires { Filled rules }
-    ensures { result ≡ cond (ltb 0 (length (missing (rules_in rules) (items_of tlvs.now)))) (UpTo at) All }
+    ensures { result ≡ cond (ltb 0 (length (missing (rules_in rules) (items_of tlvs.now)))) (Some at) None }
 {
     if is_missing(rules, tlvs) {
-        return Extent::UpTo(at);
+        return Some(at);
     }
-    Extent::All
+    None
 }
 
 // The part from the first TLV at fault on.
 pub fn from_fault<'a>(kind: u8, tlvs: &'a [u8]) -> &'a [u8]
     ensures { items_of result.now ≡ from_fault (rules_of kind) [] (items_of tlvs.now) }
 {
-    let extent = extent_of(kind, tlvs);
-    match extent {
-        Extent::All => &tlvs[0..0],
-        Extent::UpTo(at) => &tlvs[at..],
+    match extent_of(kind, tlvs) {
+        None => &tlvs[0..0],
+        Some(at) => &tlvs[at..],
     }
 }
 

@@ -9,6 +9,7 @@ use mathlib.Core.Bool.{Bool, cond}
 use mathlib.Core.List.{List, [], ◌∷◌}
 use native.Mathlib.Omega.{arith}
 use lib.Dec.{eqb}
+use Rattle.std.specs.Prelude.{Result, Ok, Err}
 use Rattle.octets.specs.Numbers.{be16}
 use Rattle.header.specs.Bits.{result_of}
 use Rattle.header.specs.declared.Header.{Header}
@@ -17,8 +18,6 @@ use Rattle.replies.specs.Replies.{refusal_of, success_of, amount_reply}
 use Rattle.circuits.specs.Circuits.{id_at}
 use Rattle.card.specs.Cards.{Card}
 use Rattle.card.specs.Outcome.{Outcome, keeps}
-use Rattle.checks.specs.declared.Verdict.{Verdict}
-use Rattle.checks.specs.declared.Verdict.TheVariants.{Refused, Passed}
 use Rattle.checks.specs.Table.{table_of}
 use Rattle.commands.specs.Commands.{ran_of}
 use Rattle.control.specs.Control.{failure_of, all_good, commands_from, commands_in, controlled}
@@ -46,20 +45,20 @@ module _ (h : Header) (n : ℕ) (ids channels : List ℕ) where
     unfolding by_type controlled reallocated transfer_fails transfer_gives amount_reply delegation_query flow_query flows_reply
     type_code p = cond-first (eqb h.kind 144) _ _ _ (commands-code (id_at ids p) p card 1 (commands_in s))
 
-    requested-code : (v : Verdict) → requested ids channels card (with_code h n) s v ≡ requested ids channels card h s v
+    requested-code : (v : Result ℕ ℕ) → requested ids channels card (with_code h n) s v ≡ requested ids channels card h s v
     unfolding requested refusal_of
-    requested-code (Refused code) = refl
-    requested-code (Passed p) = type_code p
+    requested-code (Err code) = refl
+    requested-code (Ok p) = type_code p
 
-    offered-code : (v : Verdict) → offered card (with_code h n) s v ≡ offered card h s v
+    offered-code : (v : Result ℕ ℕ) → offered card (with_code h n) s v ≡ offered card h s v
     unfolding offered transferred
-    offered-code (Refused code) = refl
-    offered-code (Passed p) = refl
+    offered-code (Err code) = refl
+    offered-code (Ok p) = refl
 
     pub result-code : by_result ids channels card (with_code h n) s ≡ by_result ids channels card h s
     unfolding by_result table_of is_notice
     result-code =
-        let v : Verdict = table_of ids card h s in
+        let v : Result ℕ ℕ = table_of ids card h s in
         ap₂ (λ (o q : Outcome). cond (eqb h.kind 147) (cond (is_answer h.result) o (keeps card 15)) (cond (is_answer h.result) (keeps card 15) (cond (is_notice h) (keeps card 0) q)))
         (offered-code v) (requested-code v)
 

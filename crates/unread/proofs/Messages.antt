@@ -1,5 +1,4 @@
 -- Messages that differ only in what is not read come to the same, copies aside. Assumes nothing.
-use Rattle.std.specs.Prelude.{None, Some}
 use Prim.Native.Nat.{ℕ, ◌+◌}
 use mathlib.Core.Path.{◌≡◌, refl, sym, ap, ap₂, subst, ◌∙◌}
 use mathlib.Core.Bool.{Bool, true, false, cond, ◌||◌}
@@ -8,6 +7,7 @@ use native.Mathlib.Omega.{arith}
 use lib.ListN.{drop}
 use lib.Dec.{eqb, ltb}
 use borrow.Author.Tests.{eqb-true}
+use Rattle.std.specs.Prelude.{None, Some, Result, Ok, Err}
 use Rattle.header.specs.declared.Header.{Header}
 use Rattle.header.specs.Header.{size_ok, usable, header_in, head_in}
 use Rattle.tlv.specs.Depth.{depth_of}
@@ -18,8 +18,6 @@ use Rattle.replies.specs.Replies.{refusal_of}
 use Rattle.circuits.specs.Circuits.{id_at}
 use Rattle.card.specs.Cards.{Card}
 use Rattle.card.specs.Outcome.{Outcome, keeps, writes}
-use Rattle.checks.specs.declared.Verdict.{Verdict}
-use Rattle.checks.specs.declared.Verdict.TheVariants.{Refused, Passed}
 use Rattle.rules.specs.Rules.{rules_of}
 use Rattle.rules.specs.Named.{bares}
 use Rattle.checks.specs.Table.{id_in, faults, named_rows, table_of, copy_of, enclosed_of, refused_of}
@@ -116,28 +114,28 @@ module _ (ids channels : List ℕ) (card : Card) (h : Header) {s s' : List ℕ} 
       (first-same 0x0016 items (λ k. omega arith) (λ k. omega arith) (λ k. omega arith))))
       (as_equal refl))
 
-  requested_alike : (v : Verdict) → SameOutcome (requested ids channels card h s v) (requested ids channels card h s' v)
+  requested_alike : (v : Result ℕ ℕ) → SameOutcome (requested ids channels card h s v) (requested ids channels card h s' v)
   unfolding requested
-  requested_alike (Refused code) = record { card = refl; number = refl; reply = row_alike code }
-  requested_alike (Passed p) = type_alike p
+  requested_alike (Err code) = record { card = refl; number = refl; reply = row_alike code }
+  requested_alike (Ok p) = type_alike p
 
-  offered_alike : (v : Verdict) → SameOutcome (offered card h s v) (offered card h s' v)
+  offered_alike : (v : Result ℕ ℕ) → SameOutcome (offered card h s v) (offered card h s' v)
   unfolding offered
-  offered_alike (Refused code) = as_equal refl
-  offered_alike (Passed p) =
+  offered_alike (Err code) = as_equal refl
+  offered_alike (Ok p) =
       as_equal (ap (λ (c : List ℕ). transferred card h p (allocation_in c)) (first-same 0x0015 items (λ k. omega arith) (λ k. omega arith) (λ k. omega arith)))
 
   result_alike : SameOutcome (by_result ids channels card h s) (by_result ids channels card h s')
   unfolding by_result
   result_alike =
-      let v : Verdict = table_of ids card h s in
+      let v : Result ℕ ℕ = table_of ids card h s in
       by-same (eqb h.kind 147)
       (by-same (is_answer h.result)
-      (subst (λ (x : Verdict). SameOutcome (offered card h s v) (offered card h s' x)) table_same (offered_alike v))
+      (subst (λ (x : Result ℕ ℕ). SameOutcome (offered card h s v) (offered card h s' x)) table_same (offered_alike v))
       (as_equal refl))
       (by-same (is_answer h.result) (as_equal refl)
       (by-same (is_notice h) (as_equal refl)
-      (subst (λ (x : Verdict). SameOutcome (requested ids channels card h s v) (requested ids channels card h s' x)) table_same (requested_alike v))))
+      (subst (λ (x : Result ℕ ℕ). SameOutcome (requested ids channels card h s v) (requested ids channels card h s' x)) table_same (requested_alike v))))
 
 -- ---- whole messages
 module _ (ids channels : List ℕ) (card : Card) (space : ℕ) where

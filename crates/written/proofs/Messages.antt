@@ -1,5 +1,4 @@
 -- What a message that is handed in writes, check by check: nothing, or the answer of its row or type. Assumes nothing.
-use Rattle.std.specs.Prelude.{Option}
 use Prim.Native.Nat.{ℕ, ◌+◌, ◌<◌}
 use mathlib.Core.Path.{◌≡◌, refl, sym, ap, subst, ◌∙◌}
 use mathlib.Core.Bool.{Bool, true, false, cond, ◌||◌}
@@ -8,6 +7,7 @@ use native.Mathlib.Omega.{arith}
 use lib.ListN.{length, drop, length-append}
 use lib.Dec.{eqb, ltb}
 use borrow.Author.Tests.{eqb-true, eqb-false, ltb-true, ltb-false}
+use Rattle.std.specs.Prelude.{Option, Result, Ok, Err}
 use Rattle.header.specs.declared.Header.{Header}
 use Rattle.header.specs.Header.{size_ok, usable, header_in, head_in}
 use Rattle.tlv.specs.Depth.{depth_of, list_ok}
@@ -18,8 +18,6 @@ use Rattle.ports.specs.Ports.{answers, within}
 use Rattle.pool.specs.Pool.{committed_of}
 use Rattle.card.specs.Cards.{Card, port_at}
 use Rattle.card.specs.Outcome.{Outcome, writes}
-use Rattle.checks.specs.declared.Verdict.{Verdict}
-use Rattle.checks.specs.declared.Verdict.TheVariants.{Refused, Passed}
 use Rattle.rules.specs.Rules.{handled, rules_of, is_among}
 use Rattle.rules.proofs.Faults.{fault_tail}
 use Rattle.checks.specs.Table.{faults, refused_of}
@@ -93,10 +91,10 @@ module _ (t : Tables) (card : Card) (m : List ℕ) (space : ℕ) (octets : Octet
       (λ _. by_cond So (within (port_at card p) amount) _ _ (λ _. nothing) (λ _. nothing)))
       (λ _. nothing)
 
-  offered_writes : (v : Verdict) → So (offered card h s v)
+  offered_writes : (v : Result ℕ ℕ) → So (offered card h s v)
   unfolding offered
-  offered_writes (Refused code) = nothing
-  offered_writes (Passed p) = transferred_writes p _
+  offered_writes (Err code) = nothing
+  offered_writes (Ok p) = transferred_writes p _
 
   -- ---- a request
   module _ (request : is_answer h.result ≡ false) where
@@ -105,14 +103,14 @@ module _ (t : Tables) (card : Card) (m : List ℕ) (space : ℕ) (octets : Octet
     three ok = ap (λ (b : Bool). list_ok (cond b 4 3) false s) (sym request) ∙ ok
 
     -- a row of the table
-    fault-writes : verdict_on t card m ≡ Refused 0x55 → list_ok 3 false s ≡ true → (is : List Item) → faults h.kind s ≡ is → (is ≡ [] → ⊥)
+    fault-writes : verdict_on t card m ≡ Err 0x55 → list_ok 3 false s ≡ true → (is : List Item) → faults h.kind s ≡ is → (is ≡ [] → ⊥)
         → So (writes card (refused_of h s 0x55))
     fault-writes v ok [] e n = absurd (n refl)
     fault-writes v ok (i ∷ is) e n =
         let z = fault_ends h.kind s in
         tlv-at-fault z.before is v (z.both ∙ ap (λ (js : List Item). z.before ++ js) e) e ((kinds_back.rows h s fits).fault i is ok e)
 
-    row-writes : (code : ℕ) → verdict_on t card m ≡ Refused code → TableRefused t.ids card h s code → So (writes card (refused_of h s code))
+    row-writes : (code : ℕ) → verdict_on t card m ≡ Err code → TableRefused t.ids card h s code → So (writes card (refused_of h s code))
     row-writes _ v (unhandled a) = type_unhandled v (kinds_back.rows h s fits).unhandled
     row-writes _ v (unfit a b) = result_wrong v (kinds_back.rows h s fits).result
     row-writes _ v (zero a b c) = result_wrong v (kinds_back.rows h s fits).result
@@ -123,7 +121,7 @@ module _ (t : Tables) (card : Card) (m : List ℕ) (space : ℕ) (octets : Octet
     row-writes _ v (down a b c d e) = port_down_lem v (kinds_back.rows h s fits).down
 
     -- past the table
-    module _ (p : ℕ) (v : verdict_on t card m ≡ Passed p) (past : TablePassed t.ids card h s p) where
+    module _ (p : ℕ) (v : verdict_on t card m ≡ Ok p) (past : TablePassed t.ids card h s p) where
       abbrev id : List ℕ
       id = id_at t.ids p
 
@@ -189,10 +187,10 @@ module _ (t : Tables) (card : Card) (m : List ℕ) (space : ℕ) (octets : Octet
           (λ b. by_cond So (eqb h.kind 148) _ _ (λ c. delegation-writes (eqb-true _ _ c))
           (λ c. flows-writes (flow_query_lem h.kind past.known a b n c))))
 
-    requested-writes : eqb h.kind 147 ≡ false → (x : Verdict) → verdict_on t card m ≡ x → So (requested t.ids t.channels card h s x)
+    requested-writes : eqb h.kind 147 ≡ false → (x : Result ℕ ℕ) → verdict_on t card m ≡ x → So (requested t.ids t.channels card h s x)
     unfolding requested
-    requested-writes n (Refused code) v = row-writes code v (refused-tells t.ids card h s v)
-    requested-writes n (Passed p) v = type_writes p v (passed-tells t.ids card h s v) n
+    requested-writes n (Err code) v = row-writes code v (refused-tells t.ids card h s v)
+    requested-writes n (Ok p) v = type_writes p v (passed-tells t.ids card h s v) n
 
   -- ---- before the table
   result_writes : So (by_result t.ids t.channels card h s)

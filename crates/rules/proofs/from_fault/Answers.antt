@@ -7,14 +7,14 @@ use Rattle.rules.specs.Rules.{rules_of}
 use Rattle.rules.proofs.Walk.{extent_all, extent_fits, extent_rest}
 use Rattle.rules.proofs.from_fault.Goals as goal
 
-pub slice_bounds-result-count-in-UpTo : goal.slice_bounds-result-count-in-UpTo
-slice_bounds-result-count-in-UpTo c = extent_fits (rules_of c.args.kind) c.args.tlvs.now c.extent_of-extent.ensures c.in-UpTo.is
+pub slice_bounds-result-count-in-Some : goal.slice_bounds-result-count-in-Some
+slice_bounds-result-count-in-Some c = extent_fits (rules_of c.args.kind) c.args.tlvs.now c.extent_of.ensures c.in-Some.is
 
-pub slice_bounds-result-start-in-UpTo : goal.slice_bounds-result-start-in-UpTo
-slice_bounds-result-start-in-UpTo c = extent_fits (rules_of c.args.kind) c.args.tlvs.now c.extent_of-extent.ensures c.in-UpTo.is
+pub slice_bounds-result-start-in-Some : goal.slice_bounds-result-start-in-Some
+slice_bounds-result-start-in-Some c = extent_fits (rules_of c.args.kind) c.args.tlvs.now c.extent_of.ensures c.in-Some.is
 
-pub returns-in-All : goal.returns-in-All
-returns-in-All c = items_end [] (first_end [] refl) refl ∙ sym (extent_all (rules_of c.args.kind) c.args.tlvs.now c.extent_of-extent.ensures c.in-All.is).1
+pub returns-in-None : goal.returns-in-None
+returns-in-None c = items_end [] (first_end [] refl) refl ∙ sym (extent_all (rules_of c.args.kind) c.args.tlvs.now c.extent_of.ensures c.in-None.is).1
 
-pub returns-in-UpTo : goal.returns-in-UpTo
-returns-in-UpTo c = rw rest_part (extent_rest (rules_of c.args.kind) c.args.tlvs.now c.extent_of-extent.ensures c.in-UpTo.is)
+pub returns-in-Some : goal.returns-in-Some
+returns-in-Some c = rw rest_part (extent_rest (rules_of c.args.kind) c.args.tlvs.now c.extent_of.ensures c.in-Some.is)
