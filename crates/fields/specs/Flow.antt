@@ -1,6 +1,6 @@
 -- The fields of a Multicast-Flow 0x0019 with content c (CARD.md, "Octets"): flow type (8), family (8), source count
 -- (16), group, sources. Assumes nothing: these are definitions.
-use Rattle.std.specs.Prelude.{ℕ, ◌+◌, ◌*◌, List, [], ◌∷◌, Bool, false, cond, length, take, drop, eqb, ltb}
+use Rattle.std.specs.Prelude.{ℕ, ◌+◌, ◌*◌, List, [], ◌∷◌, Bool, cond, length, take, drop, eqb, ltb}
 use Rattle.octets.specs.Numbers.{be8, be16}
 use Rattle.octets.specs.Tests.{every}
 use Rattle.fields.specs.declared.FlowFields.{FlowFields}

@@ -30,7 +30,7 @@ pub fn circuit_ids(c: &[u8]) -> usize
     items::count_of(c, CIRCUIT_ID)
 }
 
-pub fn circuit_id<'a>(c: &'a [u8]) -> &'a [u8]
+pub fn circuit_id(c: &[u8]) -> &[u8]
     ensures { result.now ≡ circuit_id c.now }
 {
     items::first_of(c, CIRCUIT_ID)
@@ -44,26 +44,27 @@ pub struct Status {
     pub text: u16,
 }
 
+#[tactic(auto, unfolding(crate::specs::Fields::status_in))]
 pub fn status_in(c: &[u8]) -> Status
     ensures { result ≡ status_in c.now }
 {
     Status {
         kind: octets::read8(c, 1),
-        text: number16(c, 2),
+        text: octets::number16(c, 2),
     }
 }
 
-pub fn status_text<'a>(c: &'a [u8]) -> &'a [u8]
+pub fn status_text(c: &[u8]) -> &[u8]
     ensures { result.now ≡ status_text c.now }
 {
-    let n = number16(c, 2) as usize;
+    let n = octets::number16(c, 2) as usize;
     part(c, 4, n)
 }
 
-pub fn status_tlvs<'a>(c: &'a [u8]) -> &'a [u8]
+pub fn status_tlvs(c: &[u8]) -> &[u8]
     ensures { result.now ≡ status_tlvs c.now }
 {
-    rest(c, 4 + octets::pad(number16(c, 2)))
+    rest(c, 4 + octets::pad(octets::number16(c, 2)))
 }
 
 #[repr(C)]
@@ -73,6 +74,7 @@ pub struct Command {
     pub accounting: u8,
 }
 
+#[tactic(auto, unfolding(crate::specs::Fields::command_in))]
 pub fn command_in(c: &[u8]) -> Command
     ensures { result ≡ command_in c.now }
 {
@@ -82,7 +84,7 @@ pub fn command_in(c: &[u8]) -> Command
     }
 }
 
-pub fn command_tlvs<'a>(c: &'a [u8]) -> &'a [u8]
+pub fn command_tlvs(c: &[u8]) -> &[u8]
     ensures { result.now ≡ command_tlvs c.now }
 {
     rest(c, 4)
@@ -91,7 +93,7 @@ pub fn command_tlvs<'a>(c: &'a [u8]) -> &'a [u8]
 pub fn allocation_in(c: &[u8]) -> u32
     ensures { result ≡ allocation_in c.now }
 {
-    number32(c, 0)
+    octets::number32(c, 0)
 }
 
 #[repr(C)]
@@ -101,34 +103,31 @@ pub struct Request {
     pub preferred: u32,
 }
 
+#[tactic(auto, unfolding(crate::specs::Fields::request_in))]
 pub fn request_in(c: &[u8]) -> Request
     ensures { result ≡ request_in c.now }
 {
     Request {
-        required: number32(c, 0),
-        preferred: number32(c, 4),
+        required: octets::number32(c, 0),
+        preferred: octets::number32(c, 4),
     }
 }
 
 pub fn sequence_in(c: &[u8]) -> u32
     ensures { result ≡ sequence_in c.now }
 {
-    number32(c, 0)
+    octets::number32(c, 0)
 }
 
+#[tactic(auto, unfolding(crate::specs::Fields::length_ok))]
 pub fn length_ok(kind: u16, c: &[u8]) -> bool
     ensures { result ≡ length_ok kind c.now }
 {
-    if kind == ALLOCATION {
-        return c.len() == 4;
+    match kind {
+        ALLOCATION | SEQUENCE => c.len() == 4,
+        REQUEST => c.len() == 8,
+        _ => true,
     }
-    if kind == REQUEST {
-        return c.len() == 8;
-    }
-    if kind == SEQUENCE {
-        return c.len() == 4;
-    }
-    true
 }
 
 // Multicast-Flow: flow type, family, source count, and whether the length agrees with them.
@@ -141,11 +140,12 @@ pub struct FlowFields {
     pub agrees: bool,
 }
 
+#[tactic(auto, unfolding(crate::specs::Flow::flow_in))]
 pub fn flow_in(c: &[u8]) -> FlowFields
     ensures { result ≡ flow_in c.now }
 {
     let family = octets::read8(c, 1);
-    let count = number16(c, 2);
+    let count = octets::number16(c, 2);
     FlowFields {
         kind: octets::read8(c, 0),
         family,
@@ -154,77 +154,48 @@ pub fn flow_in(c: &[u8]) -> FlowFields
     }
 }
 
-pub fn group_in<'a>(c: &'a [u8]) -> &'a [u8]
+pub fn group_in(c: &[u8]) -> &[u8]
     ensures { result.now ≡ group_in c.now }
 {
     part(c, 4, width_of(octets::read8(c, 1)))
 }
 
-pub fn sources_in<'a>(c: &'a [u8]) -> &'a [u8]
+pub fn sources_in(c: &[u8]) -> &[u8]
     ensures { result.now ≡ sources_in c.now }
 {
     rest(c, 4 + width_of(octets::read8(c, 1)))
 }
 
 // How many octets an address of a family takes.
+#[tactic(auto, unfolding(crate::specs::Flow::width_of))]
 pub fn width_of(family: u8) -> usize
     ensures { result ≡ width_of family }
 {
-    if family == 1 {
-        return 4;
+    match family {
+        1 => 4,
+        2 => 16,
+        _ => 0,
     }
-    if family == 2 {
-        return 16;
-    }
-    0
 }
 
+#[tactic(auto, unfolding(crate::specs::Flow::length_agrees))]
 fn length_agrees(family: u8, count: u16, n: usize) -> bool
     ensures { result ≡ length_agrees family count n }
 {
     let w = width_of(family);
-    if w == 0 {
-        return false;
-    }
-    n == 4 + w * (count as usize + 1)
-}
-
-// The numbers of 16 and 32 bits at a place near the start, where an octet past the end counts as 0.
-fn number16(c: &[u8], at: u8) -> u16
-    ensures { result ≡ be16 c.now at }
-{
-    let i = at as usize;
-    octets::join16(octets::read8(c, i), octets::read8(c, i + 1))
-}
-
-fn number32(c: &[u8], at: u8) -> u32
-    ensures { result ≡ be32 c.now at }
-{
-    let i = at as usize;
-    octets::join32(
-        octets::read8(c, i),
-        octets::read8(c, i + 1),
-        octets::read8(c, i + 2),
-        octets::read8(c, i + 3),
-    )
+    w != 0 && n == 4 + w * (count as usize + 1)
 }
 
 // What stands from octet k on; and n octets of it, or as many as there are.
-fn rest<'a>(c: &'a [u8], k: usize) -> &'a [u8]
+fn rest(c: &[u8], k: usize) -> &[u8]
     ensures { result.now ≡ drop k c.now }
 {
-    if c.len() < k {
-        return &c[0..0];
-    }
-    &c[k..]
+    c.get(k..).unwrap_or(&[])
 }
 
-fn part<'a>(c: &'a [u8], k: usize, n: usize) -> &'a [u8]
+fn part(c: &[u8], k: usize, n: usize) -> &[u8]
     ensures { result.now ≡ take n (drop k c.now) }
 {
     let t = rest(c, k);
-    if t.len() < n {
-        return t;
-    }
-    &t[0..n]
+    t.get(..n).unwrap_or(t)
 }

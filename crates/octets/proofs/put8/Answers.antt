@@ -1,8 +1,5 @@
-use native.Mathlib.Omega.{arith}
-use lib.ListN.{length-set}
 use Rattle.octets.specs.Numbers.{oct8}
 use Rattle.octets.proofs.Writing.{stores}
-use borrow.Author.Rules.{rules}
 use Rattle.octets.proofs.put8.Goals as goal
 
 pub returns : goal.returns

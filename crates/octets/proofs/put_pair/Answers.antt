@@ -1,6 +1,5 @@
 use Rattle.octets.proofs.Writing.{lent-after}
 use Rattle.octets.proofs.Numbers.{length-oct16}
-use borrow.Author.Rules.{rules}
 use Rattle.octets.proofs.put_pair.Goals as goal
 
 pub returns : goal.returns

@@ -1,7 +1,6 @@
-use Rattle.octets.specs.Numbers.{oct8, oct16}
+use Rattle.octets.specs.Numbers.{oct8}
 use mathlib.Core.Path.{refl}
 use Rattle.octets.proofs.Writing.{lent-after}
-use borrow.Author.Rules.{rules}
 use Rattle.octets.proofs.put_triple.Goals as goal
 
 pub returns : goal.returns
