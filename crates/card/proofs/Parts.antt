@@ -22,11 +22,11 @@ use Rattle.ports.specs.declared.Change.TheVariants.{Kept}
 use Rattle.ports.specs.Ports.{fresh_port, changed_by}
 use Rattle.pool.specs.declared.Pool.{Pool}
 use Rattle.card.specs.Cards.{Card, Areas, is_port, has_port, port_at, with_pool, with_head, with_areas}
-use Rattle.card.specs.Outcome.{Done, Outcome, keeps, becomes, writes, Ends}
+use Rattle.card.specs.Outcome.{Outcome, keeps, becomes, writes, Ends}
 use Rattle.card.specs.declared.Terms.{Terms}
 use Rattle.card.specs.declared.Effect.{Effect}
 use Rattle.card.specs.declared.CardHead.{CardHead}
-use Rattle.card.specs.Parts.{terms_at, HasTerms, changed_at, done_with, ComesTo, AreasComeTo}
+use Rattle.card.specs.Parts.{HasTerms, changed_at, done_with, ComesTo, AreasComeTo}
 use Rattle.card.proofs.Ends.{ends_as, ends_wrote}
 
 module _ {card : Card} {p : ℕ} {terms : Terms} (h : HasTerms card p terms) where

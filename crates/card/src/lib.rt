@@ -2,7 +2,6 @@
 
 // The card: start; port up, port down, set delegation and leave, each on its parts.
 ghost use Rattle.std.specs.Prelude.{◌≡◌, Bool, true, List, ℕ, ◌<◌, length};
-ghost use Rattle.pool.specs.Pool.{pool_of, with_owner};
 ghost use Rattle.card.specs.Cards.{Areas, no_areas, is_port, card_of};
 ghost use Rattle.card.specs.Calls.{port_up_of, port_down_of, set_delegation_of, leave_of};
 ghost use Rattle.card.specs.Parts.{done_with, returned_of, ComesTo};
@@ -45,7 +44,7 @@ pub struct Returned {
     pub length: usize,
 }
 
-// What a call asks of the card besides the pool's maps and the areas: the head, and of a call about one port that
+// What a call asks of the card besides the pool and the areas: the head, and of a call about one port that
 // port's record, which lies at `at` in the table. A call about no port or about several does not look at it, and keeps
 // it.
 #[repr(C)]
@@ -56,7 +55,7 @@ pub struct Terms {
     pub port: Port,
 }
 
-// What a call on lent maps gives: the call's number, how many octets of reply are written, the head after it,
+// What a call on the parts of a card gives: the call's number, how many octets of reply are written, the head after it,
 // and what becomes of the port's record.
 #[repr(C)]
 #[derive(Clone, Copy)]
@@ -154,20 +153,17 @@ fn fresh_core(
 ) -> Core
     ensures { result ≡ fresh_core port_count channel_count entry_count white_cac add_cac first }
 {
-    let port = Port::fresh();
-    let counter = Counter { number: first };
-    let head = CardHead {
-        port_count,
-        channel_count,
-        entry_count,
-        counter,
-        white_cac,
-        add_cac,
-    };
     Core {
-        ports: [port; 64],
+        ports: [Port::fresh(); 64],
         pool: Pool::fresh(),
-        head,
+        head: CardHead {
+            port_count,
+            channel_count,
+            entry_count,
+            counter: Counter { number: first },
+            white_cac,
+            add_cac,
+        },
     }
 }
 
@@ -204,16 +200,12 @@ pub fn done_with(core: Core, at: usize, pool: Pool, r: Effect) -> Returned
     requires { at < 64 }
     ensures { (areas : Areas) → result ≡ returned_of (done_with (card_of core areas) at pool r) }
 {
-    let mut c = core;
-    let table = c.ports;
-    let change = r.change;
-    let changed = ports::update_in(table, at, change);
-    c.ports = changed;
-    c.pool = pool;
-    let head = r.head;
-    c.head = head;
     Returned {
-        core: c,
+        core: Core {
+            ports: ports::update_in(core.ports, at, r.change),
+            pool,
+            head: r.head,
+        },
         number: r.number,
         length: r.length,
     }
@@ -223,11 +215,10 @@ pub fn done_with(core: Core, at: usize, pool: Pool, r: Effect) -> Returned
 pub fn unchanged(terms: Terms, number: u8) -> Effect
     ensures { result ≡ record { number = number; length = 0; head = terms.head; change = Change.Kept } }
 {
-    let head = terms.head;
     Effect {
         number,
         length: 0,
-        head,
+        head: terms.head,
         change: Change::Kept,
     }
 }
@@ -236,18 +227,17 @@ pub fn unchanged(terms: Terms, number: u8) -> Effect
 pub fn changed(terms: Terms, change: Change, n: usize) -> Effect
     ensures { result ≡ record { number = 0; length = n; head = terms.head; change = change } }
 {
-    let head = terms.head;
     Effect {
         number: 0,
         length: n,
-        head,
+        head: terms.head,
         change,
     }
 }
 
-// ---- the same calls on the parts that they read and write: the maps become those of the card afterwards
+// ---- the same calls on the parts that they read and write: the pool becomes that of the card afterwards
 
-// Whatever the maps hold.
+// Whatever the pool holds.
 pub fn port_up_in(terms: Terms, p: usize) -> Effect
     ensures { (pool : Pool) (text : List ℕ) → ComesTo (λ card. port_up_of card p) p terms pool pool result text text }
 {
@@ -257,64 +247,52 @@ pub fn port_up_in(terms: Terms, p: usize) -> Effect
     changed(terms, Change::BroughtUp, 0)
 }
 
-// Whatever the other maps hold.
-pub fn port_down_in(owner: &mut [u8; 512], terms: Terms, p: usize) -> Effect
-    requires { length owner.old ≡ 512 }
-    ensures { (pool : Pool) (text : List ℕ) → ComesTo (λ card. port_down_of card p) p terms (with_owner pool owner.old) (with_owner pool owner.new) result text text }
+pub fn port_down_in(pool: &mut Pool, terms: Terms, p: usize) -> Effect
+    ensures { (text : List ℕ) → ComesTo (λ card. port_down_of card p) p terms pool.old pool.new result text text }
 {
     if !is_port(terms.head.port_count, p) {
         return unchanged(terms, 7);
     }
-    let x = terms.port;
-    if !x.up {
+    if !terms.port.up {
         return unchanged(terms, 0);
     }
-    pool::end_all_in(owner, p as u8);
+    pool.end_all(p as u8);
     changed(terms, Change::TakenDown, 0)
 }
 
-pub fn set_delegation_in<'a>(
-    owner: &'a [u8; 512],
-    channel: &'a [u8; 512],
-    charged: &'a [bool; 512],
+pub fn set_delegation_in(
+    pool: &Pool,
     channels: &[u32; 2816],
     terms: Terms,
     p: usize,
     amount: u32,
 ) -> Effect
-    ensures { (accounting text : List ℕ) → ComesTo (λ card. set_delegation_of channels.now card p amount) p terms (pool_of owner.now channel.now charged.now accounting) (pool_of owner.now channel.now charged.now accounting) result text text }
+    ensures { (text : List ℕ) → ComesTo (λ card. set_delegation_of channels.now card p amount) p terms pool.now pool.now result text text }
 {
     if !is_port(terms.head.port_count, p) {
         return unchanged(terms, 7);
     }
-    if (amount as u64) < pool::committed_of(channels, owner, channel, charged, p as u8) {
+    if (amount as u64)
+        < pool::committed_of(channels, &pool.owner, &pool.channel, &pool.charged, p as u8)
+    {
         return unchanged(terms, 11);
     }
     changed(terms, Change::Delegated(amount), 0)
 }
 
-pub fn leave_in(
-    owner: &mut [u8; 512],
-    channel: &[u8; 512],
-    channels: &[u32; 2816],
-    terms: Terms,
-    p: usize,
-    f: Flow,
-) -> Effect
-    requires { length owner.old ≡ 512 }
-    ensures { (charged : List Bool) (accounting text : List ℕ) → ComesTo (λ card. leave_of channels.now card p f) p terms (pool_of owner.old channel.now charged accounting) (pool_of owner.new channel.now charged accounting) result text text }
+pub fn leave_in(pool: &mut Pool, channels: &[u32; 2816], terms: Terms, p: usize, f: Flow) -> Effect
+    ensures { (text : List ℕ) → ComesTo (λ card. leave_of channels.now card p f) p terms pool.old pool.new result text text }
 {
     if !is_port(terms.head.port_count, p) {
         return unchanged(terms, 7);
     }
-    let x = terms.port;
-    if !x.up {
+    if !terms.port.up {
         return unchanged(terms, 6);
     }
     if !flows::good_flow(f) {
         return unchanged(terms, 8);
     }
-    if pool::end_in(owner, channel, channels, p as u8, f) {
+    if pool.end(channels, p as u8, f) {
         return unchanged(terms, 0);
     }
     unchanged(terms, 10)

@@ -6,7 +6,7 @@ use Prim.Native.Nat.{ℕ, ◌≤◌}
 use mathlib.Core.Path.{◌≡◌, ◌∙◌}
 use mathlib.Core.Bool.{Bool, false, cond}
 use native.Mathlib.Omega.{arith}
-use lib.ListN.{length, get_or, set, length-set, length-replicate}
+use lib.ListN.{get_or, set, length-set, length-replicate}
 use lib.Seq.{set_out}
 use Rattle.sums.proofs.Maps.{map_to-length}
 pub use Rattle.pool.specs.Pool.{Whole}

@@ -1,7 +1,7 @@
 -- The 512 flow records (CARD.md, "Records and room"). Assumes nothing: these are definitions.
 -- A figure that a function reads off lent maps is defined on the maps (`count_in owner`), and of a pool it is that of
 -- its maps.
-use Rattle.std.specs.Prelude.{ℕ, ◌-◌, ◌≡◌, Bool, true, false, cond, ◌&&◌, ◌||◌, List, [], length, get_or, set, take, replicate, eqb, ltb, Option, Some, None}
+use Rattle.std.specs.Prelude.{ℕ, ◌-◌, ◌≡◌, Bool, true, false, cond, ◌&&◌, ◌||◌, List, length, get_or, set, take, replicate, eqb, ltb, Option, Some, None}
 use Rattle.flows.specs.declared.Flow.{Flow}
 use Rattle.channels.specs.Channels.{rate_at, is_row}
 use Rattle.rows.specs.Rows.{first_row, NextWith}
@@ -203,16 +203,3 @@ pub record Whole (pool : Pool) : Type 0 where
   pub channel : length pool.channel ≡ 512
   pub charged : length pool.charged ≡ 512
   pub accounting : length pool.accounting ≡ 512
-
--- the owner map of `ended`
-abbrev pub ended_in : List ℕ → List ℕ → ℕ → (ℕ → Bool) → List ℕ
-ended_in owner channel p sel = map_to 512 (λ i. cond (is_of owner p i && sel (get_or channel i 0)) free (get_or owner i 0))
-
--- and of `ended_all`, which asks for no channel
-abbrev pub ended_all_in : List ℕ → ℕ → List ℕ
-ended_all_in owner p = ended_in owner [] p (λ j. true)
-
--- the accounting map of `accounted`
-abbrev pub accounted_in : List ℕ → List ℕ → List ℕ → ℕ → ℕ → ℕ → List ℕ
-accounted_in accounting owner channel p k value =
-    map_to 512 (λ i. cond (is_of owner p i && eqb (get_or channel i 0) k) value (get_or accounting i 0))

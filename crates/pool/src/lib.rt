@@ -2,11 +2,11 @@
 
 // The 512 flow records: which port each belongs to, its channel, whether it is charged, and its accounting.
 // No figure is stored: counts, extras and committed amounts are read off the records.
-ghost use Rattle.std.specs.Prelude.{◌≡◌, ◌+◌, ◌<◌, ◌≤◌, length, eqb};
+ghost use Rattle.std.specs.Prelude.{◌≡◌, ◌+◌, ◌<◌, ◌≤◌, false};
 ghost use Rattle.rows.specs.Rows.{none_of};
 ghost use Rattle.sums.specs.Sums.{map_to};
 ghost use Rattle.channels.specs.Channels.{is_row};
-ghost use Rattle.pool.specs.Pool.{is_of, Next, count_in, committed_in, active_in, active_where, extras_in, free_in, room_in, fresh_pool, began, rows_in, as_rows, pool_of, Whole, ended_in, ended_all_in, accounted_in, state_in};
+ghost use Rattle.pool.specs.Pool.{is_of, Next, count_in, committed_in, active_in, active_where, extras_in, free_in, room_in, fresh_pool, began, has_flow, is_active, ended_flow, ended_all, accounted, rows_in, as_rows, state_in};
 
 use channels::{channel_at, rate_at};
 use flows::{Flow, same_flow};
@@ -52,93 +52,67 @@ impl Pool {
             accounting: [0u8; 512],
         }
     }
-}
 
-// ---- flows begin and end in maps that are lent
-
-// A flow begins in the first free record. Where none is free nothing begins: `has_room` is asked first.
-pub fn begin_in(
-    owner: &mut [u8; 512],
-    channel: &mut [u8; 512],
-    charged: &mut [bool; 512],
-    accounting: &mut [u8; 512],
-    p: u8,
-    k: u8,
-    c: bool,
-    a: u8,
-)
-    requires { Whole (pool_of owner.old channel.old charged.old accounting.old) }
-    ensures { pool_of owner.new channel.new charged.new accounting.new ≡ began (pool_of owner.old channel.old charged.old accounting.old) p k c a }
-{
-    let i = free_of(owner);
-    if 512 <= i {
-        return;
-    }
-    owner[i] = p;
-    channel[i] = k;
-    charged[i] = c;
-    accounting[i] = a;
-}
-
-// Leave and Delete: the port's flow with this address ends, whoever began it. The answer is whether there was one.
-pub fn end_in(
-    owner: &mut [u8; 512],
-    channel: &[u8; 512],
-    channels: &[u32; 2816],
-    p: u8,
-    f: Flow,
-) -> bool
-    requires { length owner.old ≡ 512 }
-    ensures was { result ≡ active_where owner.old channel.now p (is_row channels.now f) }
-    ensures ends { owner.new ≡ ended_in owner.old channel.now p (is_row channels.now f) }
-{
-    let mut found = false;
-    let mut i = next_of(owner, p, 0);
-    while i < 512 {
-        if same_flow(channel_at(channels, channel[i]), f) {
-            owner[i] = FREE;
-            found = true;
+    // A flow begins in the first free record. Where none is free nothing begins: `has_room` is asked first.
+    pub fn begin(&mut self, p: u8, k: u8, c: bool, a: u8)
+        ensures { self.new ≡ began self.old p k c a }
+    {
+        let i = free_of(&self.owner);
+        if 512 <= i {
+            return;
         }
-        i = next_of(owner, p, i + 1);
+        self.owner[i] = p;
+        self.channel[i] = k;
+        self.charged[i] = c;
+        self.accounting[i] = a;
     }
-    found
-}
 
-// Delete All, and port down.
-pub fn end_all_in(owner: &mut [u8; 512], p: u8)
-    requires { length owner.old ≡ 512 }
-    ensures { owner.new ≡ ended_all_in owner.old p }
-{
-    let mut i = next_of(owner, p, 0);
-    while i < 512 {
-        owner[i] = FREE;
-        i = next_of(owner, p, i + 1);
-    }
-}
-
-// An Add of an active flow: neither charge nor room is touched. The answer is whether it is active.
-pub fn account_in<'a>(
-    accounting: &mut [u8; 512],
-    owner: &'a [u8; 512],
-    channel: &'a [u8; 512],
-    p: u8,
-    k: u8,
-    value: u8,
-) -> bool
-    requires { length accounting.old ≡ 512 }
-    ensures is { result ≡ active_in owner.now channel.now p k }
-    ensures sets { accounting.new ≡ accounted_in accounting.old owner.now channel.now p k value }
-{
-    let mut found = false;
-    let mut at = next_of(owner, p, 0);
-    while at < 512 {
-        if channel[at] == k {
-            accounting[at] = value;
-            found = true;
+    // Leave and Delete: the port's flow with this address ends, whoever began it. The answer is whether there was one.
+    pub fn end(&mut self, channels: &[u32; 2816], p: u8, f: Flow) -> bool
+        ensures was { result ≡ has_flow channels.now self.old p f }
+        ensures ends { self.new ≡ ended_flow channels.now self.old p f }
+        ensures none { result ≡ false → self.new ≡ self.old }
+    {
+        let mut found = false;
+        let mut i = next_of(&self.owner, p, 0);
+        while i < 512 {
+            if same_flow(channel_at(channels, self.channel[i]), f) {
+                self.owner[i] = FREE;
+                found = true;
+            }
+            i = next_of(&self.owner, p, i + 1);
         }
-        at = next_of(owner, p, at + 1);
+        found
     }
-    found
+
+    // Delete All, and port down.
+    pub fn end_all(&mut self, p: u8)
+        ensures { self.new ≡ ended_all self.old p }
+    {
+        let mut i = next_of(&self.owner, p, 0);
+        while i < 512 {
+            self.owner[i] = FREE;
+            i = next_of(&self.owner, p, i + 1);
+        }
+    }
+
+    // An Add of an active flow: neither charge nor room is touched. The answer is whether it is active.
+    pub fn account(&mut self, p: u8, k: u8, value: u8) -> bool
+        ensures is { result ≡ is_active self.old p k }
+        ensures sets { self.new ≡ accounted self.old p k value }
+        ensures none { result ≡ false → self.new ≡ self.old }
+    {
+        let mut found = false;
+        let mut at = next_of(&self.owner, p, 0);
+        while at < 512 {
+            if self.channel[at] == k {
+                self.accounting[at] = value;
+                found = true;
+            }
+            at = next_of(&self.owner, p, at + 1);
+        }
+        found
+    }
 }
 
 // ---- figures, read off maps that are lent

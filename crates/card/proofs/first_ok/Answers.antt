@@ -2,7 +2,6 @@ use native.Mathlib.Omega.{arith}
 use borrow.Author.Tests.{leb-true, le-leb}
 use Rattle.octets.proofs.Tests.{each, false_by, second_of}
 use Rattle.card.specs.Start.{first_ok}
-use borrow.Author.Rules.{rules}
 use Rattle.card.proofs.first_ok.Goals as goal
 
 pub returns-then-first-lt1 : goal.returns-then-first-lt1

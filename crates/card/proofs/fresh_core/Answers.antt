@@ -1,11 +1,8 @@
-use mathlib.Core.Path.{◌≡◌, ap₂}
-use mathlib.Core.Bool.{false}
+use mathlib.Core.Path.{ap₂}
 use lib.ListN.{replicate}
 use Rattle.ports.specs.declared.Port.{Port}
 use Rattle.pool.specs.declared.Pool.{Pool}
-use Rattle.card.specs.Start.{fresh_core}
 use Rattle.card.specs.declared.Core.{Core}
-use borrow.Author.Rules.{rules}
 use Rattle.card.proofs.fresh_core.Goals as goal
 
 pub returns : goal.returns
@@ -22,4 +19,4 @@ returns c =
         white_cac = a.white_cac;
         add_cac = a.add_cac;
       };
-    }) in ap₂ made c.fresh-port.ensures c.fresh.ensures
+    }) in ap₂ made c.fresh.ensures c.fresh-2.ensures

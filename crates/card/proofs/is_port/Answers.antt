@@ -3,7 +3,6 @@ use mathlib.Core.Bool.{false≢true}
 use borrow.Author.Tests.{ltb-true, lt-ltb}
 use Rattle.octets.proofs.Tests.{each, false_by, second_of}
 use Rattle.card.specs.Cards.{is_port}
-use borrow.Author.Rules.{rules}
 use Rattle.card.proofs.is_port.Goals as goal
 
 pub returns-then-p-ge64 : goal.returns-then-p-ge64

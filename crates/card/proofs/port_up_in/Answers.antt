@@ -1,10 +1,8 @@
 use mathlib.Core.Path.{refl, sym, ◌∙◌}
-use borrow.Author.Tests.{not-true, not-false}
 use Rattle.ports.specs.declared.Change.TheVariants.{BroughtUp}
 use Rattle.card.specs.Cards.{with_pool}
 use Rattle.card.proofs.Cases.{up_7, up-goes}
 use Rattle.card.proofs.Parts.{is_here, comes-kept, comes-changed}
-use borrow.Author.Rules.{rules}
 use Rattle.card.proofs.port_up_in.Goals as goal
 
 pub returns-then-not-is_port : goal.returns-then-not-is_port

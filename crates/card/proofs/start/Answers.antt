@@ -5,11 +5,9 @@ use mathlib.Core.List.{List, [], ◌∷◌}
 use native.Mathlib.Omega.{arith}
 use Rattle.octets.specs.Tests.{every}
 use Rattle.tables.specs.Tables.{tables_ok}
-use Rattle.card.specs.Cards.{no_areas, core_of}
-use Rattle.card.specs.declared.Fresh.{Fresh}
+use Rattle.card.specs.Cards.{no_areas}
 use Rattle.card.specs.declared.Core.{Core}
 use Rattle.card.specs.Start.{Started, StartGives, fresh_core, fresh_card, fresh_areas, first_ok, start_of}
-use borrow.Author.Rules.{rules}
 use Rattle.card.proofs.start.Goals as goal
 
 module _ (ids : List ℕ) (ports : ℕ) (channels : List ℕ) (channel_count : ℕ) (entries : List ℕ) (entry_count : ℕ) (white add : Bool) (first : ℕ) where

@@ -1,9 +1,6 @@
 use mathlib.Core.Path.{refl, sym, ◌∙◌}
-use mathlib.Core.Bool.{true, false}
-use borrow.Author.Tests.{not-true, not-false}
 use Rattle.octets.specs.Tests.{every}
 use Rattle.card.specs.Start.{start_of}
-use borrow.Author.Rules.{rules}
 use Rattle.card.proofs.start_number.Goals as goal
 
 pub returns-then-not-tables_ok : goal.returns-then-not-tables_ok
