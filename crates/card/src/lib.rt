@@ -272,9 +272,14 @@ pub fn set_delegation_in(
     if !is_port(terms.head.port_count, p) {
         return unchanged(terms, 7);
     }
-    if (amount as u64)
-        < pool::committed_of(channels, &pool.owner, &pool.channel, &pool.charged, p as u8)
-    {
+    let committed = pool::committed_of(
+        channels,
+        &pool.owner,
+        &pool.channel,
+        &pool.charged,
+        p as u8,
+    );
+    if (amount as u64) < committed {
         return unchanged(terms, 11);
     }
     changed(terms, Change::Delegated(amount), 0)

@@ -89,10 +89,10 @@ impl Pool {
     pub fn end_all(&mut self, p: u8)
         ensures { self.new ≡ ended_all self.old p }
     {
-        let mut i = next_of(&self.owner, p, 0);
-        while i < 512 {
-            self.owner[i] = FREE;
-            i = next_of(&self.owner, p, i + 1);
+        let mut at = next_of(&self.owner, p, 0);
+        while at < 512 {
+            self.owner[at] = FREE;
+            at = next_of(&self.owner, p, at + 1);
         }
     }
 

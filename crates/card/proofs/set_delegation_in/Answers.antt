@@ -16,14 +16,14 @@ returns-then-not-is_port c text =
 pub overflow_cast-p : goal.overflow_cast-p
 overflow_cast-p c = omega (arith, c.is_port.ensures.inside c.if-not-is_port.false)
 
-pub returns-then-amount-committed_of : goal.returns-then-amount-committed_of
-returns-then-amount-committed_of c text =
+pub returns-then-amount-committed : goal.returns-then-amount-committed
+returns-then-amount-committed c text =
     let a = c.args in
     let here : is_port a.terms.head.port_count a.p ≡ true = sym c.is_port.ensures.test ∙ c.if-not-is_port.false in
-    comes-kept refl 11 c.unchanged-then-amount-committed_of.ensures (λ card h. delegation_11 a.channels.now (with_pool card a.pool.now) a.p a.amount (is_here h here) (lt-leb _ a.amount (omega (arith, c.committed_of.ensures))))
+    comes-kept refl 11 c.unchanged-then-amount-committed.ensures (λ card h. delegation_11 a.channels.now (with_pool card a.pool.now) a.p a.amount (is_here h here) (lt-leb _ a.amount (omega (arith, c.committed_of-committed.ensures))))
 
 pub returns : goal.returns
 returns c text =
     let a = c.args in
     let here : is_port a.terms.head.port_count a.p ≡ true = sym c.is_port.ensures.test ∙ c.if-not-is_port.false in
-    comes-changed refl (c.is_port.ensures.inside c.if-not-is_port.false) (Delegated a.amount) c.changed.ensures (λ card h. delegation-set a.channels.now (with_pool card a.pool.now) a.p a.amount (is_here h here) (le-leb _ a.amount (omega (arith, c.committed_of.ensures))))
+    comes-changed refl (c.is_port.ensures.inside c.if-not-is_port.false) (Delegated a.amount) c.changed.ensures (λ card h. delegation-set a.channels.now (with_pool card a.pool.now) a.p a.amount (is_here h here) (le-leb _ a.amount (omega (arith, c.committed_of-committed.ensures))))
