@@ -18,54 +18,41 @@ pub struct Header {
     pub transaction: u32,
 }
 
+#[tactic(auto, unfolding(crate::specs::Header::size_ok, octets::specs::Tests::every))]
 pub fn size_ok(s: &[u8]) -> bool
     ensures { result ≡ size_ok s.now }
 {
-    let n = s.len();
-    if n < 16 {
-        return false;
-    }
-    n <= 4096
+    matches!(s.len(), 16..=4096)
 }
 
 // None where the header is unusable.
+#[tactic(auto, unfolding(crate::specs::Header::head_in, crate::specs::Header::usable, octets::specs::Tests::every))]
 pub fn read_header(s: &[u8]) -> Option<Header>
     ensures { result ≡ head_in s.now }
 {
-    if s.len() < 16 {
+    if s.len() < 16 || !usable_fields(s) {
         return None;
     }
-    if usable_fields(s) {
-        return Some(header_fields(s));
-    }
-    None
+    Some(header_fields(s))
 }
 
+#[tactic(auto, unfolding(crate::specs::Header::usable, octets::specs::Tests::every))]
 fn usable_fields(s: &[u8]) -> bool
     requires { 16 ≤ length s.now }
     ensures { result ≡ usable s.now }
 {
     let n = s.len() - 4;
-    if octets::read16(s, 0) != 0x880C {
-        return false;
-    }
-    if octets::read16(s, 2) as usize != n {
-        return false;
-    }
-    if octets::read8(s, 4) != 0x32 {
-        return false;
-    }
     let sub = octets::read16(s, 12);
-    if i_bit_of(sub) != 1 {
-        return false;
-    }
-    if submessage_of(sub) != 1 {
-        return false;
-    }
-    octets::read16(s, 14) as usize == n
+    octets::read16(s, 0) == 0x880C
+        && octets::read16(s, 2) as usize == n
+        && octets::read8(s, 4) == 0x32
+        && i_bit_of(sub) == 1
+        && submessage_of(sub) == 1
+        && octets::read16(s, 14) as usize == n
 }
 
 // What the header of a message says, usable or not.
+#[tactic(auto, unfolding(crate::specs::Header::header_in))]
 pub fn header_fields(s: &[u8]) -> Header
     requires { 16 ≤ length s.now }
     ensures { result ≡ header_in s.now }
@@ -80,6 +67,7 @@ pub fn header_fields(s: &[u8]) -> Header
     }
 }
 
+#[tactic(auto, unfolding(crate::specs::Header::header_of, octets::specs::Writing::over, octets::specs::Numbers::oct8, octets::specs::Numbers::oct16, octets::specs::Numbers::oct24))]
 pub fn put_header(buf: &mut [u8], h: Header, n: usize)
     requires { (16 ≤ length buf.old) × (n < 65524) }
     ensures { buf.new ≡ over (header_of h n) buf.old }
@@ -97,6 +85,7 @@ pub fn put_header(buf: &mut [u8], h: Header, n: usize)
 }
 
 // The third of the header's four words.
+#[tactic(auto, unfolding(octets::specs::Writing::over, octets::specs::Numbers::oct8))]
 fn put_transaction(buf: &mut [u8], partition: u8, transaction: u32)
     requires { 4 ≤ length buf.old }
     ensures { buf.new ≡ over (oct8 partition ++ oct24 transaction) buf.old }
@@ -118,6 +107,7 @@ pub fn code_of(x: u16) -> u16
     x & 0xFFF
 }
 
+#[tactic(auto, using(crate::proofs::Bits::join))]
 pub fn result_and_code(res: u8, code: u16) -> u16
     ensures { result ≡ result_and_code res code }
 {
@@ -137,6 +127,7 @@ pub fn submessage_of(x: u16) -> u16
     x & 0x7FFF
 }
 
+#[tactic(auto, using(crate::proofs::Bits::join))]
 pub fn i_bit_and_submessage(number: u16) -> u16
     ensures { result ≡ i_bit_and_submessage number }
 {

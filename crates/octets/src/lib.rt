@@ -67,6 +67,7 @@ pub fn pad(n: u16) -> usize
     usize::from(n).next_multiple_of(4)
 }
 
+#[tactic(auto, unfolding(crate::specs::Writing::over, crate::specs::Numbers::oct8))]
 pub fn put8(buf: &mut [u8], x: u8)
     requires { 1 ≤ length buf.old }
     ensures { buf.new ≡ over (oct8 x) buf.old }
@@ -99,6 +100,7 @@ pub fn put32(buf: &mut [u8], x: u32)
 }
 
 // Two numbers of 16 bits, the second directly after the first.
+#[tactic(auto, unfolding(crate::specs::Writing::over, crate::specs::Numbers::oct16))]
 pub fn put_pair(buf: &mut [u8], a: u16, b: u16)
     requires { 4 ≤ length buf.old }
     ensures { buf.new ≡ over (oct16 a ++ oct16 b) buf.old }
@@ -108,6 +110,7 @@ pub fn put_pair(buf: &mut [u8], a: u16, b: u16)
 }
 
 // Two numbers of 8 bits and one of 16, each directly behind the one before it.
+#[tactic(auto, unfolding(crate::specs::Writing::over, crate::specs::Numbers::oct8, crate::specs::Numbers::oct16))]
 pub fn put_triple(buf: &mut [u8], x: u8, y: u8, z: u16)
     requires { 4 ≤ length buf.old }
     ensures { buf.new ≡ over (oct8 x ++ oct8 y ++ oct16 z) buf.old }

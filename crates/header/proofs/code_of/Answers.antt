@@ -1,6 +1,0 @@
-use lib.Bits.{and_mask}
-use borrow.Author.Rules.{rules}
-use Rattle.header.proofs.code_of.Goals as goal
-
-pub returns : goal.returns
-returns c = and_mask c.args.x 12
