@@ -200,9 +200,11 @@ pub fn done_with(core: Core, at: usize, pool: Pool, r: Effect) -> Returned
     requires { at < 64 }
     ensures { (areas : Areas) → result ≡ returned_of (done_with (card_of core areas) at pool r) }
 {
+    let mut ports = core.ports;
+    ports::update_in(&mut ports, at, r.change);
     Returned {
         core: Core {
-            ports: ports::update_in(core.ports, at, r.change),
+            ports,
             pool,
             head: r.head,
         },

@@ -161,7 +161,7 @@ pub fn ancp_card_call(
         octets,
         reply,
     );
-    ports::update(&mut core.ports[at], r.change);
+    core.ports[at].update(r.change);
     core.head = r.head;
     Answer {
         number: r.number,

@@ -6,8 +6,9 @@ ghost use Rattle.ports.specs.Ports.{fresh_port, closed, brought_up, taken_down, 
 ghost use Rattle.ports.specs.Transactions.{taken_from};
 
 // asking: a request is open, with its figures and its transaction number.
+// A flag with its values beside it, and no Option: C's `struct ancp_port` has these fields (layout_core).
 #[repr(C)]
-#[derive(Clone, Copy)]
+#[derive(Clone, Copy, Default)]
 pub struct Port {
     pub up: bool,
     pub asking: bool,
@@ -32,119 +33,96 @@ impl Port {
     pub fn fresh() -> Port
         ensures { result ≡ fresh_port }
     {
-        Port {
-            up: false,
-            asking: false,
-            delegation: 0,
-            required: 0,
-            preferred: 0,
-            transaction: 0,
-        }
+        Port::default()
     }
 
+    #[tactic(auto, unfolding(crate::specs::Ports::may_ask, octets::specs::Tests::every))]
     pub fn may_ask(self, required: u32, preferred: u32) -> bool
         ensures { result ≡ may_ask self required preferred }
     {
-        if required <= self.delegation {
-            return false;
-        }
-        if preferred < required {
-            return false;
-        }
-        !self.asking
+        self.delegation < required && required <= preferred && !self.asking
     }
 
+    #[tactic(auto, unfolding(crate::specs::Ports::answers, octets::specs::Tests::every))]
     pub fn answers(self, transaction: u32) -> bool
         ensures { result ≡ answers self transaction }
     {
-        if !self.asking {
-            return false;
-        }
-        self.transaction == transaction
+        self.asking && self.transaction == transaction
     }
 
+    #[tactic(auto, unfolding(crate::specs::Ports::within, octets::specs::Tests::every))]
     pub fn within(self, amount: u32) -> bool
         ensures { result ≡ within self amount }
     {
-        if amount < self.required {
-            return false;
+        self.required <= amount && amount <= self.preferred
+    }
+
+    // ---- changes of the record where it is stored
+
+    pub fn bring_up(&mut self)
+        ensures { self.new ≡ brought_up self.old }
+    {
+        self.up = true;
+    }
+
+    #[tactic(auto, unfolding(crate::specs::Ports::taken_down))]
+    pub fn take_down(&mut self)
+        ensures { self.new ≡ taken_down self.old }
+    {
+        if self.up {
+            self.close();
+            self.up = false;
         }
-        amount <= self.preferred
+    }
+
+    pub fn delegate(&mut self, amount: u32)
+        ensures { self.new ≡ delegated self.old amount }
+    {
+        self.close();
+        self.delegation = amount;
+    }
+
+    pub fn close(&mut self)
+        ensures { self.new ≡ closed self.old }
+    {
+        self.asking = false;
+        self.required = 0;
+        self.preferred = 0;
+        self.transaction = 0;
+    }
+
+    pub fn ask(&mut self, required: u32, preferred: u32, transaction: u32)
+        ensures { self.new ≡ asked self.old required preferred transaction }
+    {
+        self.asking = true;
+        self.required = required;
+        self.preferred = preferred;
+        self.transaction = transaction;
+    }
+
+    #[tactic(auto, unfolding(crate::specs::Ports::changed_by))]
+    pub fn update(&mut self, c: Change)
+        ensures { self.new ≡ changed_by c self.old }
+    {
+        match c {
+            Change::Kept => {}
+            Change::BroughtUp => self.bring_up(),
+            Change::TakenDown => self.take_down(),
+            Change::Delegated(amount) => self.delegate(amount),
+            Change::Closed => self.close(),
+            Change::Asked(required, preferred, transaction) => {
+                self.ask(required, preferred, transaction)
+            }
+        }
     }
 }
 
-// ---- one port's record, updated where it is stored
-
-pub fn up(x: &mut Port)
-    ensures { x.new ≡ brought_up x.old }
-{
-    x.up = true;
-}
-
-#[tactic(auto, unfolding(crate::specs::Ports::taken_down))]
-pub fn down(x: &mut Port)
-    ensures { x.new ≡ taken_down x.old }
-{
-    if x.up {
-        x.asking = false;
-        x.required = 0;
-        x.preferred = 0;
-        x.transaction = 0;
-        x.up = false;
-    }
-}
-
-pub fn set_delegation(x: &mut Port, amount: u32)
-    ensures { x.new ≡ delegated x.old amount }
-{
-    x.delegation = amount;
-    x.asking = false;
-    x.required = 0;
-    x.preferred = 0;
-    x.transaction = 0;
-}
-
-pub fn close(x: &mut Port)
-    ensures { x.new ≡ closed x.old }
-{
-    x.asking = false;
-    x.required = 0;
-    x.preferred = 0;
-    x.transaction = 0;
-}
-
-pub fn ask(x: &mut Port, required: u32, preferred: u32, transaction: u32)
-    ensures { x.new ≡ asked x.old required preferred transaction }
-{
-    x.asking = true;
-    x.required = required;
-    x.preferred = preferred;
-    x.transaction = transaction;
-}
-
-// A port's record is changed where it is stored.
-#[tactic(auto, unfolding(crate::specs::Ports::changed_by))]
-pub fn update(x: &mut Port, c: Change)
-    ensures { x.new ≡ changed_by c x.old }
-{
-    match c {
-        Change::Kept => {}
-        Change::BroughtUp => up(x),
-        Change::TakenDown => down(x),
-        Change::Delegated(amount) => set_delegation(x, amount),
-        Change::Closed => close(x),
-        Change::Asked(required, preferred, transaction) => ask(x, required, preferred, transaction),
-    }
-}
-
-// The same of port p of the table, lent where it stands: no other port's record changes.
-pub fn update_in(ports: [Port; 64], p: usize, c: Change) -> [Port; 64]
+// Port p's record changes where the table stores it, and no other port's.
+pub fn update_in(ports: &mut [Port; 64], p: usize, c: Change)
     requires { p < 64 }
-    ensures { result ≡ set ports p (changed_by c (get_or ports p fresh_port)) }
+    ensures { ports.new ≡ set ports.old p (changed_by c (get_or ports.old p fresh_port)) }
 {
-    let mut table = ports;
-    update(&mut table[p], c);
-    table
+    ports[p].update(c);
 }
 
 #[repr(C)]
@@ -162,15 +140,14 @@ pub struct Taken {
 
 impl Counter {
     // The number for the next message that the card begins, and the counter after it.
-    pub fn take(mut self) -> Taken
+    pub fn take(self) -> Taken
         ensures { result ≡ taken_from self }
     {
         let number = self.number;
-        if 16777215 <= number {
-            self.number = 1;
-        } else {
-            self.number = number + 1;
+        let next = if number < 16777215 { number + 1 } else { 1 };
+        Taken {
+            number,
+            next: Counter { number: next },
         }
-        Taken { number, next: self }
     }
 }
