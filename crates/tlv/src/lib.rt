@@ -15,10 +15,11 @@ pub enum First {
     Tlv { kind: u16, len: usize, size: usize },
 }
 
+#[tactic(auto, unfolding(crate::specs::First::first_tlv))]
 pub fn first_tlv(s: &[u8]) -> First
     ensures { result ≡ first_tlv s.now }
 {
-    if s.len() == 0 {
+    if s.is_empty() {
         return First::End;
     }
     if s.len() < 4 {
@@ -41,13 +42,10 @@ pub fn first_tlv(s: &[u8]) -> First
 pub fn depth_of(res: u8) -> u8
     ensures { result ≡ depth_of res }
 {
-    if res == 3 {
-        return 4;
+    match res {
+        3 | 4 => 4,
+        _ => 3,
     }
-    if res == 4 {
-        return 4;
-    }
-    3
 }
 
 // Where a TLV's content holds further TLVs.
@@ -67,12 +65,11 @@ pub fn check_list(s: &[u8], depth: u8, bare: bool) -> bool
     ensures { result ≡ list_ok depth bare s.now }
 {
     if depth == 0 {
-        return s.len() == 0;
+        return s.is_empty();
     }
     let mut t = s;
     loop {
-        let next = first_tlv(t);
-        match next {
+        match first_tlv(t) {
             First::End => return true,
             First::Broken => return false,
             First::Tlv { kind, len, size } => {
@@ -91,8 +88,7 @@ pub fn check_list(s: &[u8], depth: u8, bare: bool) -> bool
 pub fn check_inside(c: &[u8], kind: u16, depth: u8, bare: bool) -> bool
     ensures { result ≡ inside_ok (list_ok depth) bare kind c.now }
 {
-    let place = inside_of(c, kind, bare);
-    match place {
+    match inside_of(c, kind, bare) {
         Inside::Plain => true,
         Inside::Short => false,
         Inside::Holds {
@@ -106,32 +102,25 @@ pub fn check_inside(c: &[u8], kind: u16, depth: u8, bare: bool) -> bool
 fn inside_of(c: &[u8], kind: u16, bare: bool) -> Inside
     ensures { result ≡ inside_of bare kind c.now }
 {
-    if bare {
-        if c.len() == 0 {
-            return Inside::Plain;
-        }
+    if bare && c.is_empty() {
+        return Inside::Plain;
     }
-    if kind == 0x1000 {
-        return Inside::Holds {
+    match kind {
+        0x1000 => Inside::Holds {
             start: 0,
             bare: false,
-        };
-    }
-    if kind == 0x0011 {
-        if c.len() < 4 {
-            return Inside::Short;
-        }
-        return Inside::Holds {
+        },
+        0x0011 if c.len() < 4 => Inside::Short,
+        0x0011 => Inside::Holds {
             start: 4,
             bare: false,
-        };
+        },
+        0x0106 => inside_status(c),
+        _ => Inside::Plain,
     }
-    if kind == 0x0106 {
-        return inside_status(c);
-    }
-    Inside::Plain
 }
 
+#[tactic(auto, unfolding(crate::specs::Depth::status_inside))]
 fn inside_status(c: &[u8]) -> Inside
     ensures { result ≡ status_inside c.now }
 {
