@@ -3,14 +3,15 @@
 --     zeros-drop       of words that are all zero those from a place on are, and zeros_all says which they are
 -- Assumes nothing.
 use Prim.Native.Nat.{ℕ, zero, suc, ◌≤◌}
-use mathlib.Core.Path.{◌≡◌, refl, ap₂}
+use mathlib.Core.Path.{◌≡◌, refl, ap, ap₂}
 use mathlib.Core.Logic.{◌⊎◌, inl, inr}
-use mathlib.Core.Bool.{Bool, true, false, cond, not, ◌||◌}
+use mathlib.Core.Bool.{Bool, true, false, cond, not, ◌&&◌, ◌||◌}
 use mathlib.Core.List.{List, [], ◌∷◌}
 use lib.ListN.{length, drop, replicate}
 use lib.Dec.{eqb, leb}
 use native.Mathlib.Omega.{arith}
 use borrow.Author.Tests.{eqb-true, eqb-false, leb-true, not-true}
+use Rattle.std.specs.List.{list_all}
 use Rattle.octets.specs.Tests.{every}
 use Rattle.octets.proofs.Tests.{both, each}
 use Rattle.flows.specs.Words.{zeros}
@@ -18,6 +19,11 @@ use Rattle.flows.specs.Flows.{known_family, width, in_width, is_group, good_grou
 use Rattle.flows.specs.declared.Flow.{Flow}
 
 -- ---- words that are zero
+pub zeros-are : (xs : List ℕ) → list_all (λ x. eqb x 0) xs ≡ zeros xs
+unfolding zeros
+zeros-are [] = refl
+zeros-are (x ∷ xs) = ap (λ (t : Bool). eqb x 0 && t) (zeros-are xs)
+
 pub zeros_all : (xs : List ℕ) → zeros xs ≡ true → xs ≡ replicate (length xs) 0
 unfolding zeros
 zeros_all [] e = refl

@@ -1,4 +1,3 @@
-pub mod Turns
 pub mod Same
 pub mod Orders
 pub mod Good

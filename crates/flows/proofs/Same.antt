@@ -2,15 +2,27 @@
 use Prim.Native.Nat.{ℕ}
 use native.Mathlib.Omega.{arith}
 use mathlib.Core.Path.{◌≡◌, refl, sym, ap, ap₂, ◌∙◌}
-use mathlib.Core.Bool.{Bool, true, false, false≢true, ◌&&◌, and_assoc}
+use mathlib.Core.Bool.{Bool, true, false, false≢true, ◌&&◌, and_assoc, and-true}
 use mathlib.Core.List.{List, [], ◌∷◌, ◌++◌}
 use lib.ListN.{length}
 use lib.Dec.{eqb}
 use borrow.Author.Tests.{eqb-true, eq-eqb}
+use Rattle.std.specs.Prelude.{nat_eq}
+use Rattle.std.specs.Cmp.Lexicographic.{pointwise}
+use Rattle.octets.specs.Tests.{every}
 use Rattle.octets.proofs.Tests.{both, each, every-by, false_by}
 use Rattle.flows.specs.Words.{same}
 use Rattle.flows.specs.Flows.{same_flow}
+use Rattle.flows.specs.Laws.{derived_eq}
 use Rattle.flows.specs.declared.Flow.{Flow}
+
+-- what `==` answers at arrays of words
+pub same_pointwise : (xs ys : List ℕ) → pointwise nat_eq xs ys ≡ same xs ys
+unfolding same
+same_pointwise [] [] = refl
+same_pointwise [] (y ∷ ys) = refl
+same_pointwise (x ∷ xs) [] = refl
+same_pointwise (x ∷ xs) (y ∷ ys) = ap (λ (t : Bool). eqb x y && t) (same_pointwise xs ys)
 
 pub same_eq : (xs ys : List ℕ) → same xs ys ≡ true → xs ≡ ys
 unfolding same
@@ -51,6 +63,11 @@ module _ (a b : Flow) where
   same-flow_eq e =
       let t = each (eqb a.family b.family ∷ eqb a.sourced b.sourced ∷ same a.group b.group ∷ same a.source b.source ∷ []) e in
       flow_eq (eqb-true _ _ t.0) (same_eq _ _ t.1.1.0) (eqb-true _ _ t.1.0) (same_eq _ _ t.1.1.1.0)
+
+-- what `==` answers at flows
+pub same_derived : (a b : Flow) → derived_eq a b ≡ same_flow a b
+unfolding same_flow every
+same_derived a b = rw (sym (same_pointwise a.group b.group), sym (same_pointwise a.source b.source), and-true) refl
 
 pub same-flow_refl : (a : Flow) → same_flow a a ≡ true
 unfolding same_flow

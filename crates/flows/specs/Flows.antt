@@ -1,9 +1,9 @@
 -- Flows (CARD.md, "Flows and lists"). Assumes nothing: these are definitions.
-use Rattle.std.specs.Prelude.{ℕ, ◌/◌, ◌^◌, Bool, true, false, cond, not, ◌||◌, List, [], ◌∷◌, get_or, eqb, leb}
+use Rattle.std.specs.Prelude.{ℕ, ◌/◌, ◌^◌, Bool, cond, not, ◌||◌, List, [], ◌∷◌, get_or, eqb, leb}
+use Rattle.std.specs.declared.cmp.Ordering.{Ordering}
+use Rattle.std.specs.Ordering.{is_lt, nat_cmp, on, then_cmp}
 use Rattle.octets.specs.Tests.{every}
-use Rattle.flows.specs.Words.{same, zeros, zero_from, word_order, words_order, or_else}
-use Rattle.flows.specs.declared.Order.{Order}
-use Rattle.flows.specs.declared.Order.TheVariants.{Before, Equal, After}
+use Rattle.flows.specs.Words.{same, zeros, zero_from, words_order}
 use Rattle.flows.specs.declared.Flow.{Flow}
 
 -- A flow is family, group and source or none.
@@ -60,17 +60,12 @@ good_flow f =
 -- ---- order
 
 -- by family, group, source (none first)
-unfoldable pub flow_order : Flow → Flow → Order
-flow_order a b =
-    or_else (word_order a.family b.family)
-    (or_else (words_order a.group b.group)
-    (or_else (word_order a.sourced b.sourced)
-    (words_order a.source b.source)))
-
-abbrev pub is_before : Order → Bool
-is_before Before = true
-is_before Equal = false
-is_before After = false
+abbrev pub flow_order : Flow → Flow → Ordering
+flow_order =
+    then_cmp (on (λ f. f.family) nat_cmp)
+    (then_cmp (on (λ f. f.group) words_order)
+    (then_cmp (on (λ f. f.sourced) nat_cmp)
+    (on (λ f. f.source) words_order)))
 
 unfoldable pub flow_before : Flow → Flow → Bool
-flow_before a b = is_before (flow_order a b)
+flow_before a b = is_lt (flow_order a b)

@@ -1,8 +1,9 @@
 -- Addresses as 32-bit words, the highest first, of any number of words. Assumes nothing: these are definitions.
-use Rattle.std.specs.Prelude.{ℕ, ◌+◌, Bool, true, false, cond, ◌&&◌, List, [], ◌∷◌, ◌++◌, drop, get_or, eqb, ltb}
+use Rattle.std.specs.Prelude.{ℕ, ◌+◌, Bool, true, false, ◌&&◌, List, [], ◌∷◌, ◌++◌, drop, get_or, eqb}
 use Rattle.octets.specs.Numbers.{oct32}
-use Rattle.flows.specs.declared.Order.{Order}
-use Rattle.flows.specs.declared.Order.TheVariants.{Before, Equal, After}
+use Rattle.std.specs.Cmp.Lexicographic.{slice_cmp}
+use Rattle.std.specs.Ordering.{nat_cmp}
+use Rattle.std.specs.declared.cmp.Ordering.{Ordering}
 
 -- the four words that a table has from a place on
 abbrev pub address_at : List ℕ → ℕ → List ℕ
@@ -28,18 +29,6 @@ zeros (a ∷ xs) = eqb a 0 && zeros xs
 abbrev pub zero_from : ℕ → List ℕ → Bool
 zero_from n xs = zeros (drop n xs)
 
--- the first comparison decides, and where it is equal the next
-abbrev pub or_else : Order → Order → Order
-or_else Before next = Before
-or_else Equal next = next
-or_else After next = After
-
-unfoldable pub word_order : ℕ → ℕ → Order
-word_order a b = cond (ltb a b) Before (cond (ltb b a) After Equal)
-
 -- the first words that differ say which address goes first
-unfoldable pub words_order : List ℕ → List ℕ → Order
-words_order [] [] = Equal
-words_order [] (b ∷ ys) = Before
-words_order (a ∷ xs) [] = After
-words_order (a ∷ xs) (b ∷ ys) = or_else (word_order a b) (words_order xs ys)
+abbrev pub words_order : List ℕ → List ℕ → Ordering
+words_order = slice_cmp nat_cmp

@@ -1,9 +1,14 @@
 #![tactic(auto)]
 
 // A flow: family, group, and source or none (CARD.md, "Flows and lists"): equality, good addresses, order.
-ghost use Rattle.std.specs.Prelude.{◌≡◌, ◌≤◌};
-ghost use Rattle.flows.specs.Words.{same, zero_from, word_order, words_order, or_else};
+ghost use Rattle.std.specs.Prelude.{◌≡◌, refl, ◌≤◌};
+ghost use Rattle.std.specs.Cmp.{po};
+ghost use Rattle.std.specs.Ordering.{as_partial_cmp};
+ghost use Rattle.flows.specs.Words.{zero_from};
 ghost use Rattle.flows.specs.Flows.{same_flow, known_family, width, is_group, in_width, good_group, good_source, good_flow, flow_order, flow_before};
+ghost use Rattle.flows.specs.Laws.{flow_total, flow_ties};
+
+use std::cmp::Ordering;
 
 pub const IPV4: u32 = 1;
 
@@ -13,7 +18,7 @@ pub const IPV6: u32 = 2;
 // first and the others zero. `sourced` is 1 where there is a source and 0 where there is none. The fields hold anything:
 // `good_flow` tells which of their values are a flow's.
 #[repr(C)]
-#[derive(Clone, Copy)]
+#[derive(Clone, Copy, PartialEq, Eq)]
 pub struct Flow {
     pub family: u32,
     pub sourced: u32,
@@ -21,30 +26,10 @@ pub struct Flow {
     pub source: [u32; 4],
 }
 
-#[derive(Clone, Copy)]
-pub enum Order {
-    Before,
-    Equal,
-    After,
-}
-
 pub fn same_flow(a: Flow, b: Flow) -> bool
     ensures { result ≡ same_flow a b }
 {
-    if a.family != b.family {
-        return false;
-    }
-    if a.sourced != b.sourced {
-        return false;
-    }
-    let ag = a.group;
-    let bg = b.group;
-    if !same_words(ag, bg) {
-        return false;
-    }
-    let ax = a.source;
-    let bx = b.source;
-    same_words(ax, bx)
+    a == b
 }
 
 // ---- good addresses: what is not good gets number 8 from the host, 0x65 in a command, and 14 in a table
@@ -52,15 +37,9 @@ pub fn same_flow(a: Flow, b: Flow) -> bool
 pub fn good_flow(f: Flow) -> bool
     ensures { result ≡ good_flow f }
 {
-    if !known_family(f.family) {
-        return false;
-    }
-    let group = f.group;
-    if !good_group(f.family, group) {
-        return false;
-    }
-    let source = f.source;
-    good_source(f.family, f.sourced, source)
+    known_family(f.family)
+        && good_group(f.family, f.group)
+        && good_source(f.family, f.sourced, f.source)
 }
 
 pub fn known_family(family: u32) -> bool
@@ -78,16 +57,11 @@ pub fn good_group(family: u32, group: [u32; 4]) -> bool
 pub fn good_source(family: u32, sourced: u32, source: [u32; 4]) -> bool
     ensures { result ≡ good_source family sourced source }
 {
-    if sourced == 0 {
-        return zero_from(source, 0);
+    match sourced {
+        0 => zero_from(source, 0),
+        1 => in_width(family, source) && !zero_from(source, 0) && !is_group(family, source),
+        _ => false,
     }
-    if 1 < sourced {
-        return false;
-    }
-    if !in_width(family, source) {
-        return false;
-    }
-    !zero_from(source, 0) && !is_group(family, source)
 }
 
 // How many words an address of the family has.
@@ -116,90 +90,44 @@ fn in_width(family: u32, address: [u32; 4]) -> bool
 
 // ---- order
 
+// By family, group and source, none first. A derive would compare the fields in C's order, the mark before the group.
+impl Ord for Flow {
+    ghost cmp = { flow_order };
+
+    ghost total = { flow_total };
+
+    ghost matches_partial_cmp = { λ a b. refl };
+
+    ghost matches_eq = { flow_ties };
+
+    fn cmp(&self, other: &Flow) -> Ordering {
+        let families = self.family.cmp(&other.family);
+        let groups = self.group.cmp(&other.group);
+        let marks = self.sourced.cmp(&other.sourced);
+        let sources = self.source.cmp(&other.source);
+        families.then(groups).then(marks).then(sources)
+    }
+}
+
+impl PartialOrd for Flow {
+    ghost partial_cmp = { as_partial_cmp flow_order };
+
+    ghost laws = { po flow_total flow_ties };
+
+    fn partial_cmp(&self, other: &Flow) -> Option<Ordering> {
+        Some(self.cmp(other))
+    }
+}
+
 pub fn flow_before(a: Flow, b: Flow) -> bool
     ensures { result ≡ flow_before a b }
 {
-    match flow_order(a, b) {
-        Order::Before => true,
-        Order::Equal => false,
-        Order::After => false,
-    }
-}
-
-fn flow_order(a: Flow, b: Flow) -> Order
-    ensures { result ≡ flow_order a b }
-{
-    let ag = a.group;
-    let bg = b.group;
-    let ax = a.source;
-    let bx = b.source;
-    let families = word_order(a.family, b.family);
-    let groups = words_order(ag, bg);
-    let marks = word_order(a.sourced, b.sourced);
-    let sources = words_order(ax, bx);
-    or_else(families, or_else(groups, or_else(marks, sources)))
-}
-
-fn or_else(o: Order, next: Order) -> Order
-    ensures { result ≡ or_else o next }
-{
-    match o {
-        Order::Before => Order::Before,
-        Order::Equal => next,
-        Order::After => Order::After,
-    }
-}
-
-fn word_order(a: u32, b: u32) -> Order
-    ensures { result ≡ word_order a b }
-{
-    if a < b {
-        return Order::Before;
-    }
-    if b < a {
-        return Order::After;
-    }
-    Order::Equal
-}
-
-// ---- words
-
-fn same_words(a: [u32; 4], b: [u32; 4]) -> bool
-    ensures { result ≡ same a b }
-{
-    let mut i: usize = 0;
-    while i < 4 {
-        if a[i] != b[i] {
-            return false;
-        }
-        i += 1;
-    }
-    true
+    a < b
 }
 
 // The words from a place on are zero.
-fn zero_from(a: [u32; 4], from: usize) -> bool
-    ensures { result ≡ zero_from from a }
+fn zero_from(address: [u32; 4], from: usize) -> bool
+    ensures { result ≡ zero_from from address }
 {
-    let mut i = from;
-    while i < 4 {
-        if a[i] != 0 {
-            return false;
-        }
-        i += 1;
-    }
-    true
-}
-
-fn words_order(a: [u32; 4], b: [u32; 4]) -> Order
-    ensures { result ≡ words_order a b }
-{
-    let mut i: usize = 0;
-    while i < 4 {
-        if a[i] != b[i] {
-            return word_order(a[i], b[i]);
-        }
-        i += 1;
-    }
-    Order::Equal
+    address.iter().skip(from).all(|word| *word == 0)
 }

@@ -2,7 +2,6 @@ use mathlib.Core.Bool.{and-true}
 use mathlib.Core.Path.{sym, ◌∙◌}
 use Rattle.octets.specs.Tests.{every}
 use Rattle.flows.specs.Flows.{good_group}
-use borrow.Author.Rules.{rules}
 use Rattle.flows.proofs.good_group.Goals as goal
 
 pub returns-then-is_group : goal.returns-then-is_group

@@ -2,7 +2,6 @@ use Prim.Native.Nat.{ℕ}
 use mathlib.Core.Path.{ap, ◌∙◌}
 use Rattle.flows.specs.Words.{zero_from}
 use Rattle.flows.specs.Flows.{in_width}
-use borrow.Author.Rules.{rules}
 use Rattle.flows.proofs.in_width.Goals as goal
 
 pub returns : goal.returns

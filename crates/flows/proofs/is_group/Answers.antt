@@ -1,6 +1,5 @@
 use borrow.Author.Tests.{eq-eqb, ne_eqb}
 use Rattle.flows.specs.Flows.{is_group}
-use borrow.Author.Rules.{rules}
 use Rattle.flows.proofs.is_group.Goals as goal
 
 pub returns-then-family-eq-IPV4 : goal.returns-then-family-eq-IPV4

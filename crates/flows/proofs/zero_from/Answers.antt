@@ -1,28 +1,14 @@
-use borrow.Author.Rules.{rules}
-use mathlib.Core.Path.{◌≡◌, refl, sym, ◌∙◌}
-use Prim.Native.Nat.{◌-◌}
-use native.Mathlib.Omega.{arith}
+use Rattle.std.proofs.Common.{rules, tests}
+use mathlib.Core.Path.{◌∙◌}
 use lib.ListN.{drop}
-use borrow.Author.Tests.{not-true, not-false, eqb-true, eqb-false}
-use Rattle.flows.specs.Words.{zeros, zero_from}
-use Rattle.flows.proofs.Turns.{zeros-off, zeros_on, zeros_end}
+use lib.Dec.{eqb}
+use Rattle.std.proofs.lemmas.Iterator.{YieldsList-from_slice}
+use Rattle.std.proofs.lemmas.Iterator.Adapters.{YieldsList-from_skip}
+use Rattle.std.proofs.lemmas.Iterator.Search.{all_from_yields_List}
+use Rattle.flows.proofs.Good.{zeros-are}
 use Rattle.flows.proofs.zero_from.Goals as goal
-
-pub loop-i-init : goal.loop-i-init
-loop-i-init c =
-    refl
-
-pub returns-then-a-i-ne0 : goal.returns-then-a-i-ne0
-returns-then-a-i-ne0 c =
-    let h = c in
-    sym (h.loop-i.invariant ∙ zeros-off h.loop-i.i h.args.a (search rules) (search (rules, eqb-true, eqb-false, not-true, not-false)))
-
-pub loop-i-preserved : goal.loop-i-preserved
-loop-i-preserved c =
-    let h = c in
-    h.loop-i.invariant ∙ zeros_on h.loop-i.i h.args.a (search rules) (search (rules, eqb-true, eqb-false, not-true, not-false))
 
 pub returns : goal.returns
 returns c =
-    let h = c in
-    sym (h.loop-i.invariant ∙ zeros_end h.loop-i.i h.args.a (omega (arith, h.well_formed.0.1)))
+    all_from_yields_List (λ x. eqb x 0) _ _ _ c.all.ensures.ran (YieldsList-from_skip c.args.from (YieldsList-from_slice c.args.address cc) cc) (λ x b q k. search (rules, tests))
+    ∙ zeros-are (drop c.args.from c.args.address)
