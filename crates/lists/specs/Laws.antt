@@ -1,17 +1,17 @@
--- What follows from the rule. Statements, owed by the contract of `lists::decision_of`.
-use Rattle.std.specs.Prelude.{ℕ, min, ◌≡◌, List}
+-- What follows from the rule. Statements, owed by the contract of `lists::list_decision`.
+use Rattle.std.specs.Prelude.{ℕ, min, ◌≡◌, List, Option}
 use Rattle.octets.specs.Members.{Among}
 use Rattle.flows.specs.declared.Flow.{Flow}
 use Rattle.lists.specs.Lists.{matching, group_length, source_length, with_longest, by_priority, list_decision}
 use Rattle.lists.specs.declared.Entry.{Entry}
-use Rattle.lists.specs.declared.Decision.{Decision}
+use Rattle.lists.specs.declared.Colour.{Colour}
 
 -- of the first n entries those that match the flow and have the longest group prefix of these
 unfoldable pub of_longest_group : List ℕ → ℕ → Flow → List Entry
 of_longest_group t n f = with_longest group_length (matching t f (min n 128))
 
 -- what these decide by their lists alone: the rule before Req 02 (docs/requests/02.md)
-unfoldable pub group_decision : List ℕ → ℕ → Flow → Decision
+unfoldable pub group_decision : List ℕ → ℕ → Flow → Option Colour
 group_decision t n f = by_priority (of_longest_group t n f)
 
 -- each of some entries has a source prefix of s bits

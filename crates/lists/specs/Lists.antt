@@ -1,12 +1,12 @@
 -- List entries and what they decide (CARD.md, "Flows and lists"). Assumes nothing: these are definitions.
-use Rattle.std.specs.Prelude.{ℕ, zero, suc, ◌+◌, ◌*◌, max, min, Bool, false, cond, ◌||◌, List, [], ◌∷◌, get_or, eqb}
+use Rattle.std.specs.Prelude.{ℕ, zero, suc, ◌+◌, ◌*◌, max, min, Bool, false, cond, ◌||◌, List, [], ◌∷◌, get_or, eqb, Option, None, Some}
 use Rattle.octets.specs.Tests.{every}
 use Rattle.flows.specs.Words.{address_at}
 use Rattle.flows.specs.declared.Flow.{Flow}
 use Rattle.lists.specs.Prefix.{prefix_matches}
 use Rattle.lists.specs.declared.Entry.{Entry}
-use Rattle.lists.specs.declared.Decision.{Decision}
-use Rattle.lists.specs.declared.Decision.TheVariants.{Black, Grey, White, None}
+use Rattle.lists.specs.declared.Colour.{Colour}
+use Rattle.lists.specs.declared.Colour.TheVariants.{Black, Grey, White}
 
 -- A list entry has family, list, group prefix and source prefix: row i of 12 words.
 unfoldable pub entry_at : List ℕ → ℕ → Entry
@@ -69,13 +69,13 @@ has list [] = false
 has list (e ∷ es) = eqb e.list list || has list es
 
 -- black (2) goes before grey (3), grey before white (1)
-unfoldable pub by_priority : List Entry → Decision
-by_priority es = cond (has 2 es) Black (cond (has 3 es) Grey (cond (has 1 es) White None))
+unfoldable pub by_priority : List Entry → Option Colour
+by_priority es = cond (has 2 es) (Some Black) (cond (has 3 es) (Some Grey) (cond (has 1 es) (Some White) None))
 
 -- Of some matching entries the most specific decide.
-unfoldable pub decision : List Entry → Decision
+unfoldable pub decision : List Entry → Option Colour
 decision es = by_priority (most_specific es)
 
 -- what n entries decide; the table has 128 rows
-unfoldable pub list_decision : List ℕ → ℕ → Flow → Decision
+unfoldable pub list_decision : List ℕ → ℕ → Flow → Option Colour
 list_decision t n f = decision (matching t f (min n 128))

@@ -7,7 +7,7 @@ ghost use Rattle.flows.specs.Words.{address_at};
 ghost use Rattle.lists.specs.Prefix.{prefix_matches};
 ghost use Rattle.lists.specs.EqualBits.{equal_bits, PrefixLaws};
 ghost use Rattle.lists.specs.Lists.{entry_at, entry_matches, list_decision};
-ghost use Rattle.lists.specs.Ranks.{strength_of, rank_of, is_above, decision_of};
+ghost use Rattle.lists.specs.Ranks.{colour_of, rank_of};
 ghost use Rattle.lists.specs.Laws.{Laws};
 
 use flows::Flow;
@@ -30,21 +30,21 @@ pub struct Entry {
     pub source: [u32; 4],
 }
 
-// What an entry is compared by: its prefix lengths, and how strong its list is.
-#[derive(Clone, Copy)]
+// The lists, the weaker first: black goes before grey, grey before white.
+#[derive(Clone, Copy, PartialEq, Eq, PartialOrd, Ord)]
+pub enum Colour {
+    White,
+    Grey,
+    Black,
+}
+
+// What an entry is compared by. The longer group prefix goes first; of equal ones the longer source prefix; of equal
+// ones the stronger list. A number that is no list's counts for nothing.
+#[derive(Clone, Copy, PartialEq, Eq, PartialOrd, Ord)]
 struct Rank {
     group_length: u32,
     source_length: u32,
-    strength: u32,
-}
-
-// What the lists say of a flow; None where no entry matches.
-#[derive(Clone, Copy)]
-pub enum Decision {
-    Black,
-    Grey,
-    White,
-    None,
+    colour: Option<Colour>,
 }
 
 // ---- prefixes
@@ -54,9 +54,8 @@ fn prefix_at(entries: &[u32; 1536], at: usize, b: [u32; 4], length: u32) -> bool
     requires { at ≤ 1532 }
     ensures { result ≡ prefix_matches length (address_at entries.now at) b }
 {
-    let mut i: usize = 0;
     let mut left = length;
-    while i < 4 {
+    for i in 0..4 {
         if !word_matches(entries[at + i], b[i], left) {
             return false;
         }
@@ -64,7 +63,6 @@ fn prefix_at(entries: &[u32; 1536], at: usize, b: [u32; 4], length: u32) -> bool
             return true;
         }
         left -= 32;
-        i += 1;
     }
     true
 }
@@ -77,7 +75,7 @@ fn word_matches(a: u32, b: u32, length: u32) -> bool
         return a == b;
     }
     let k = 32 - length;
-    wide(a) >> k == wide(b) >> k
+    u64::from(a) >> k == u64::from(b) >> k
 }
 
 // The leading bits that two words have equal: a bit of the xor is 1 where the words differ, so these are its leading
@@ -132,27 +130,24 @@ fn row_matches(entries: &[u32; 1536], i: usize, f: Flow) -> bool
 
 // ---- the decision
 
-// The matching entry of the highest rank decides. Most entries do not match, so that is tried first.
-pub fn list_decision(entries: &[u32; 1536], n: usize, f: Flow) -> Decision
-    ensures { result ≡ list_decision entries.now n f }
+// The matching entry of the highest rank decides, None where no entry matches. Most entries do not match, so that is
+// tried first. Owed here too: what follows from the rule.
+pub fn list_decision(entries: &[u32; 1536], n: usize, f: Flow) -> Option<Colour>
+    ensures value { result ≡ list_decision entries.now n f }
+    ensures laws { Laws }
 {
     let rows = at_most(n, 128);
     let mut best = Rank {
         group_length: 0,
         source_length: 0,
-        strength: 0,
+        colour: None,
     };
-    let mut i: usize = 0;
-    while i < rows {
+    for i in 0..rows {
         if row_matches(entries, i, f) {
-            let r = rank_of(entry_at(entries, i));
-            if is_above(r, best) {
-                best = r;
-            }
+            best = rank_of(entry_at(entries, i)).max(best);
         }
-        i += 1;
     }
-    decision_of(best.strength)
+    best.colour
 }
 
 fn rank_of(e: Entry) -> Rank
@@ -161,51 +156,17 @@ fn rank_of(e: Entry) -> Rank
     Rank {
         group_length: e.group_length,
         source_length: e.source_length,
-        strength: strength_of(e.list),
+        colour: colour_of(e.list),
     }
 }
 
-// The longer group prefix goes first; of equal ones the longer source prefix; of equal ones the stronger list.
-fn is_above(a: Rank, b: Rank) -> bool
-    ensures { result ≡ is_above a b }
-{
-    if a.group_length != b.group_length {
-        return b.group_length < a.group_length;
-    }
-    if a.source_length != b.source_length {
-        return b.source_length < a.source_length;
-    }
-    b.strength < a.strength
-}
-
-// Black goes before grey, grey before white.
-fn strength_of(list: u32) -> u32
-    ensures { result ≡ strength_of list }
+fn colour_of(list: u32) -> Option<Colour>
+    ensures { result ≡ colour_of list }
 {
     match list {
-        BLACK => 3,
-        GREY => 2,
-        WHITE => 1,
-        _ => 0,
+        BLACK => Some(Colour::Black),
+        GREY => Some(Colour::Grey),
+        WHITE => Some(Colour::White),
+        _ => None,
     }
-}
-
-// What a strength decides. Owed here too: what follows from the rule.
-fn decision_of(strength: u32) -> Decision
-    ensures value { result ≡ decision_of strength }
-    ensures laws { Laws }
-{
-    match strength {
-        3 => Decision::Black,
-        2 => Decision::Grey,
-        1 => Decision::White,
-        _ => Decision::None,
-    }
-}
-
-// A parameter brings its range, where a field would have to be shown to have it.
-fn wide(x: u32) -> u64
-    ensures { (result ≡ x) × (result < 4294967296) }
-{
-    x as u64
 }

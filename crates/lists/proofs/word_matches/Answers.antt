@@ -17,5 +17,5 @@ returns-then-length-ge32 c =
 pub returns : goal.returns
 returns c =
     let a = c.args in
-    ap₂ (λ (x y : ℕ). eqb (x / 2 ^ (32 - a.length)) (y / 2 ^ (32 - a.length))) c.wide.ensures.0 c.wide-2.ensures.0
+    ap₂ (λ (x y : ℕ). eqb (x / 2 ^ (32 - a.length)) (y / 2 ^ (32 - a.length))) (c.from.ensures) (c.from-2.ensures)
     ∙ sym (word_shift a.length a.a a.b c.ranges.a.fits c.ranges.b.fits)
