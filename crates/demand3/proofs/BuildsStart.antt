@@ -5,6 +5,7 @@
 --     raised, one_up, up-claim         the ledger after port up, and demand 3 there
 --     upped, up-number, up_agrees      our card there
 -- Assumes nothing.
+use Rattle.std.specs.Prelude.{Some}
 use Prim.Native.Nat.{ℕ}
 use mathlib.Core.Path.{◌≡◌, refl, subst}
 use mathlib.Core.Bool.{Bool, true, false, cond}
@@ -20,7 +21,7 @@ use Rattle.flows.specs.declared.Flow.{Flow}
 use Rattle.rows.specs.Rows.{first_from, first_row, all_of, none_of, rows_ok}
 use Rattle.channels.specs.Channels.{channel_at, rate_at, channel_of}
 use Rattle.circuits.specs.Circuits.{id_length, id_at}
-use Rattle.lists.specs.declared.Decision.TheVariants.{White}
+use Rattle.lists.specs.declared.Colour.TheVariants.{White}
 use Rattle.lists.specs.Prefix.{bits, bits_of, prefix_matches}
 use Rattle.lists.specs.Lists.{entry_at, entry_matches, matching, longest, of_length, with_longest, most_specific, has, by_priority, decision, list_decision}
 use Rattle.tables.specs.Tables.{id_ok, channel_ok, known_list, within_address, entry_ok, tables_ok}
@@ -80,7 +81,7 @@ module _ (cac : Bool) where
   unfolding rate_of rate_by rate_at channel_of first_row first_from channel_at same_flow same every
   first_rate = refl
 
-  pub first-white : list_decision (small cac).entries (small cac).entry_count first ≡ White
+  pub first-white : list_decision (small cac).entries (small cac).entry_count first ≡ Some White
   unfolding list_decision decision by_priority has most_specific with_longest of_length longest matching entry_matches entry_at prefix_matches bits_of bits same every
   first-white = refl
 

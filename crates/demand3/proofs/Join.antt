@@ -15,8 +15,8 @@ use Rattle.flows.specs.Flows.{good_flow}
 use Rattle.flows.proofs.Same.{same-flow_refl}
 use Rattle.channels.specs.Channels.{channel_of}
 use Rattle.channels.proofs.Channels.{channel-found}
-use Rattle.lists.specs.declared.Decision.{Decision}
-use Rattle.lists.specs.declared.Decision.TheVariants.{Black, Grey, White, None as Unlisted}
+use Rattle.lists.specs.declared.Colour.{Colour}
+use Rattle.lists.specs.declared.Colour.TheVariants.{Black, Grey, White}
 use Rattle.lists.specs.Lists.{list_decision}
 use Rattle.ports.specs.Transactions.{taken_from}
 use Rattle.pool.specs.Pool.{is_active, began}
@@ -55,12 +55,12 @@ module _ (t : Tables) (card : Card) (l : Ledger) (a : Agree t card l) (p : ℕ) 
         (λ s. admits_step t card l a p port f k e a.white 0 (sym (a.at p port).is_up ∙ up) (sym (active_is t card l a p port f k e) ∙ idle) (eqb-true (admission k) 0 s))
         (λ s. subst (λ (b : Bool). Agree t card (cond b begun l)) (sym s) a)
 
-    list_step : (d : Decision) → Goes t l begun (by_list t.ids t.channels card p f k d)
+    list_step : (d : Option Colour) → Goes t l begun (by_list t.ids t.channels card p f k d)
     unfolding by_list grey_of
-    list_step White = white_step
-    list_step Grey = counter_step t card l a (taken_from card.head.counter).next
-    list_step Black = a
-    list_step Unlisted = a
+    list_step (Some White) = white_step
+    list_step (Some Grey) = counter_step t card l a (taken_from card.head.counter).next
+    list_step (Some Black) = a
+    list_step None = a
 
   row_step : p < 64 → (port_at card p).up ≡ true → (r : Option ℕ) → found t f ≡ r → Goes t l begun (join_row t.ids t.channels t.entries card p f r)
   unfolding join_row
@@ -87,7 +87,7 @@ module _ (t : Tables) (card : Card) (l : Ledger) (a : Agree t card l) (p : ℕ) 
         (λ g. a)) (λ u. a)) (λ h. a))
 
     -- ---- a join of a flow that is wanted, white-listed and with room for a reply
-    module _ (taken : TablesTaken t) (w : Wanted t l p f) (white : list_decision t.entries t.entry_count f ≡ White) (large : 4608 ≤ space) where
+    module _ (taken : TablesTaken t) (w : Wanted t l p f) (white : list_decision t.entries t.entry_count f ≡ Some White) (large : 4608 ≤ space) where
       port : p < 64
       port = below t card l a taken p w.port
 
@@ -100,7 +100,7 @@ module _ (t : Tables) (card : Card) (l : Ledger) (a : Agree t card l) (p : ℕ) 
       unfolding join_of join_row by_list
       join-white k e =
           let found_here : channel_of t.channels card.head.channel_count f ≡ Some k = ap (λ (n : ℕ). channel_of t.channels n f) a.channels ∙ e in
-          let decided : list_decision t.entries card.head.entry_count f ≡ White = ap (λ (n : ℕ). list_decision t.entries n f) a.entries ∙ white in
+          let decided : list_decision t.entries card.head.entry_count f ≡ (Some White) = ap (λ (n : ℕ). list_decision t.entries n f) a.entries ∙ white in
           rw (le-ltb space 4608 large, has_port_lem t card l a taken p w.port, (a.at p port).is_up ∙ w.is_up, is_good k e, found_here, active_is t card l a p port f k e ∙ w.idle, decided)
 
       -- its number is 0 exactly where admission's is

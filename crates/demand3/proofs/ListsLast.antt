@@ -10,8 +10,8 @@ use native.Mathlib.Omega.{arith}
 use Rattle.flows.specs.declared.Flow.{Flow}
 use Rattle.flows.specs.Flows.{good_flow}
 use Rattle.channels.specs.Channels.{channel_of}
-use Rattle.lists.specs.declared.Decision.{Decision}
-use Rattle.lists.specs.declared.Decision.TheVariants.{Black, Grey, White, None as Unlisted}
+use Rattle.lists.specs.declared.Colour.{Colour}
+use Rattle.lists.specs.declared.Colour.TheVariants.{Black, Grey, White}
 use Rattle.lists.specs.Lists.{list_decision}
 use Rattle.pool.specs.Pool.{is_active, has_room}
 use Rattle.card.specs.Cards.{Card, has_port, port_at}
@@ -43,14 +43,14 @@ module _ (ids channels : List ℕ) (card : Card) (p : ℕ) (f : Flow) (k : ℕ) 
       go true false d = not-before 0 (λ e. omega arith) (omega arith)
       go false c d = not-before 5 (λ e. omega arith) (omega arith)
 
-  late : (d : Decision) → Late (by_list ids channels card p f k d)
+  late : (d : Option Colour) → Late (by_list ids channels card p f k d)
   unfolding by_list white_of grey_of
-  late White =
+  late (Some White) =
       late_by (eqb (admit_number channels card card.head.white_cac p k) 0) _ _ (not-before 0 (λ e. omega arith) (omega arith))
       (admit_late card.head.white_cac)
-  late Grey = not-before 2 (λ e. omega arith) (omega arith)
-  late Black = not-before 3 (λ e. omega arith) (omega arith)
-  late Unlisted = not-before 3 (λ e. omega arith) (omega arith)
+  late (Some Grey) = not-before 2 (λ e. omega arith) (omega arith)
+  late (Some Black) = not-before 3 (λ e. omega arith) (omega arith)
+  late None = not-before 3 (λ e. omega arith) (omega arith)
 
 -- ---- a join, check by check
 module _ (D : Type 0) where

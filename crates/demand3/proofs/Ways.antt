@@ -13,8 +13,8 @@ use Rattle.header.specs.Header.{header_in}
 use Rattle.flows.specs.declared.Flow.{Flow}
 use Rattle.flows.specs.Flows.{good_flow}
 use Rattle.channels.specs.Channels.{channel_of}
-use Rattle.lists.specs.declared.Decision.{Decision}
-use Rattle.lists.specs.declared.Decision.TheVariants.{Black, Grey, White, None as Unlisted}
+use Rattle.lists.specs.declared.Colour.{Colour}
+use Rattle.lists.specs.declared.Colour.TheVariants.{Black, Grey, White}
 use Rattle.lists.specs.Lists.{list_decision}
 use Rattle.ports.specs.Ports.{brought_up, taken_down, closed, delegated, may_ask, answers, within}
 use Rattle.pool.specs.Pool.{is_active, has_flow, committed_of, ended_all}
@@ -69,12 +69,12 @@ module _ (t : Tables) (card : Card) (x : Call) where
   unfolding leave_flow
   flow_way p f = by (has_flow t.channels card.pool p f) _ _ (λ e. keeps_ports _ refl refl) (stays 10)
 
-  list_way : (p : ℕ) (f : Flow) (space : ℕ) → x ≡ join p f space → (k : ℕ) (d : Decision) → Way (by_list t.ids t.channels card p f k d)
+  list_way : (p : ℕ) (f : Flow) (space : ℕ) → x ≡ join p f space → (k : ℕ) (d : Option Colour) → Way (by_list t.ids t.channels card p f k d)
   unfolding by_list white_of
-  list_way p f space e k White = by (eqb (admit_number t.channels card card.head.white_cac p k) 0) _ _ (λ z. keeps_ports _ refl refl) (stays _)
-  list_way p f space e k Grey = grey p f space e
-  list_way p f space e k Black = stays 3
-  list_way p f space e k Unlisted = stays 3
+  list_way p f space e k (Some White) = by (eqb (admit_number t.channels card card.head.white_cac p k) 0) _ _ (λ z. keeps_ports _ refl refl) (stays _)
+  list_way p f space e k (Some Grey) = grey p f space e
+  list_way p f space e k (Some Black) = stays 3
+  list_way p f space e k None = stays 3
 
   row-way : (p : ℕ) (f : Flow) (space : ℕ) → x ≡ join p f space → (r : Option ℕ) → Way (join_row t.ids t.channels t.entries card p f r)
   unfolding join_row

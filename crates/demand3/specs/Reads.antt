@@ -7,7 +7,7 @@ use Rattle.items.specs.Items.{Item, items_of, first_of}
 use Rattle.fields.specs.Fields.{allocation_in, status_tlvs}
 use Rattle.channels.specs.Channels.{channel_of, rate_at}
 use Rattle.circuits.specs.Circuits.{port_of}
-use Rattle.lists.specs.declared.Decision.TheVariants.{White}
+use Rattle.lists.specs.declared.Colour.TheVariants.{White}
 use Rattle.lists.specs.Lists.{list_decision}
 use Rattle.checks.specs.Table.{id_in}
 use Rattle.demand3.specs.Calls.{Tables, Call, by_call}
@@ -59,7 +59,7 @@ rate_of t f = rate_by t (channel_of t.channels t.channel_count f)
 
 -- the lists decide white for it
 abbrev pub IsWhite : Tables → Flow → Type 0
-IsWhite t f = list_decision t.entries t.entry_count f ≡ White
+IsWhite t f = list_decision t.entries t.entry_count f ≡ Some White
 
 -- ---- a call
 

@@ -1,5 +1,5 @@
 -- The cases of join and ask, each from the tests that lead to it. Assumes nothing.
-use Rattle.std.specs.Prelude.{Some}
+use Rattle.std.specs.Prelude.{Some, Option}
 use mathlib.Core.Path.{◌≡◌, refl, sym, ap, ◌∙◌}
 use mathlib.Core.Bool.{true, false, cond}
 use mathlib.Core.List.{List}
@@ -10,7 +10,7 @@ use Rattle.octets.proofs.Tests.{taken, left}
 use Rattle.flows.specs.declared.Flow.{Flow}
 use Rattle.flows.specs.Flows.{good_flow}
 use Rattle.channels.specs.Channels.{channel_of}
-use Rattle.lists.specs.declared.Decision.{Decision}
+use Rattle.lists.specs.declared.Colour.{Colour}
 use Rattle.lists.specs.Lists.{list_decision}
 use Rattle.pool.specs.Pool.{is_active, began}
 use Rattle.ports.specs.Ports.{may_ask}
@@ -122,7 +122,7 @@ module _ (channels : List ℕ) (card : Card) (p k : ℕ) {n : ℕ} (e : n ≡ ad
   white-begins h = taken (eqb number 0) begins (keeps card number) (eq-eqb number 0 (sym e ∙ h))
 
 module _ (ids channels entries : List ℕ) (card : Card) (p : ℕ) (f : Flow) (k : ℕ) where
-  abbrev decides : Decision → Outcome
+  abbrev decides : Option Colour → Outcome
   decides d = by_list ids channels card p f k d
 
   pub row_1 : is_active card.pool p k ≡ true → keeps card 1 ≡ join_row ids channels entries card p f (Some k)
@@ -130,7 +130,7 @@ module _ (ids channels entries : List ℕ) (card : Card) (p : ℕ) (f : Flow) (k
   row_1 h = taken (is_active card.pool p k) (keeps card 1) (decides (list_decision entries card.head.entry_count f)) h
 
   -- d is what the lists decide
-  pub row_list : is_active card.pool p k ≡ false → {d x : Decision} → x ≡ list_decision entries card.head.entry_count f → x ≡ d
+  pub row_list : is_active card.pool p k ≡ false → {d x : Option Colour} → x ≡ list_decision entries card.head.entry_count f → x ≡ d
       → decides d ≡ join_row ids channels entries card p f (Some k)
   unfolding join_row
   row_list h {d} e g =

@@ -8,7 +8,7 @@ use mathlib.Core.List.{List}
 use Prim.Native.Nat.{ℕ, ◌<◌}
 use Rattle.flows.specs.declared.Flow.{Flow}
 use Rattle.channels.specs.Channels.{channel_of}
-use Rattle.lists.specs.declared.Decision.{Decision}
+use Rattle.lists.specs.declared.Colour.{Colour}
 use Rattle.lists.specs.Lists.{list_decision}
 use Rattle.ports.specs.declared.Port.{Port}
 use Rattle.pool.specs.declared.Pool.{Pool}
@@ -23,7 +23,7 @@ module _ {card : Card} {p : ℕ} {terms : Terms} (h : HasTerms card p terms) whe
       → x ≡ channel_of channels card.head.channel_count f
   found_is channels f e t = sym t ∙ e ∙ ap (λ (n : ℕ). channel_of channels n f) (sym (channels_are h))
 
-  pub decided_is : (entries : List ℕ) (f : Flow) {x : Decision} → x ≡ list_decision entries terms.head.entry_count f
+  pub decided_is : (entries : List ℕ) (f : Flow) {x : Option Colour} → x ≡ list_decision entries terms.head.entry_count f
       → x ≡ list_decision entries card.head.entry_count f
   decided_is entries f e = e ∙ ap (λ (n : ℕ). list_decision entries n f) (sym (entries_are h))
 

@@ -4,8 +4,8 @@ use Rattle.std.specs.Prelude.{ℕ, ◌+◌, ◌≡◌, Bool, cond, List, eqb, le
 use Rattle.flows.specs.declared.Flow.{Flow}
 use Rattle.flows.specs.Flows.{good_flow}
 use Rattle.channels.specs.Channels.{channel_of, rate_at}
-use Rattle.lists.specs.declared.Decision.{Decision}
-use Rattle.lists.specs.declared.Decision.TheVariants.{Black, Grey, White, None as Unlisted}
+use Rattle.lists.specs.declared.Colour.{Colour}
+use Rattle.lists.specs.declared.Colour.TheVariants.{Black, Grey, White}
 use Rattle.lists.specs.Lists.{list_decision}
 use Rattle.circuits.specs.Circuits.{id_at}
 use Rattle.ports.specs.Transactions.{taken_from}
@@ -46,11 +46,11 @@ grey_of ids card p f =
     }
 
 -- black or matched by no entry: ignored
-unfoldable pub by_list : List ℕ → List ℕ → Card → ℕ → Flow → ℕ → Decision → Outcome
-by_list ids channels card p f k White = white_of channels card p k
-by_list ids channels card p f k Grey = grey_of ids card p f
-by_list ids channels card p f k Black = keeps card 3
-by_list ids channels card p f k Unlisted = keeps card 3
+unfoldable pub by_list : List ℕ → List ℕ → Card → ℕ → Flow → ℕ → Option Colour → Outcome
+by_list ids channels card p f k (Some White) = white_of channels card p k
+by_list ids channels card p f k (Some Grey) = grey_of ids card p f
+by_list ids channels card p f k (Some Black) = keeps card 3
+by_list ids channels card p f k None = keeps card 3
 
 unfoldable pub join_row : List ℕ → List ℕ → List ℕ → Card → ℕ → Flow → Option ℕ → Outcome
 join_row ids channels entries card p f None = keeps card 9

@@ -10,7 +10,7 @@ ghost use Rattle.joins.specs.Asks.{asked_of, ask_of};
 
 use card::{Effect, Terms, unchanged};
 use flows::Flow;
-use lists::Decision;
+use lists::Colour;
 use pool::Pool;
 use ports::Change;
 
@@ -75,12 +75,13 @@ fn join_channel(
     if pool::is_active(owner, channel, p, k) {
         return unchanged(terms, 1);
     }
-    let decision = lists::list_decision(entries, terms.head.entry_count, f);
-    match decision {
-        Decision::White => join_white(owner, channel, charged, accounting, channels, terms, p, k),
-        Decision::Grey => join_grey(ids, terms, p, f, reply),
-        Decision::Black => unchanged(terms, 3),
-        Decision::None => unchanged(terms, 3),
+    let Some(list) = lists::list_decision(entries, terms.head.entry_count, f) else {
+        return unchanged(terms, 3);
+    };
+    match list {
+        Colour::White => join_white(owner, channel, charged, accounting, channels, terms, p, k),
+        Colour::Grey => join_grey(ids, terms, p, f, reply),
+        Colour::Black => unchanged(terms, 3),
     }
 }
 

@@ -10,8 +10,8 @@ use lib.Dec.{eqb, ltb}
 use Rattle.flows.specs.declared.Flow.{Flow}
 use Rattle.flows.specs.Flows.{good_flow}
 use Rattle.channels.specs.Channels.{channel_of}
-use Rattle.lists.specs.declared.Decision.{Decision}
-use Rattle.lists.specs.declared.Decision.TheVariants.{Black, Grey, White, None as Unlisted}
+use Rattle.lists.specs.declared.Colour.{Colour}
+use Rattle.lists.specs.declared.Colour.TheVariants.{Black, Grey, White}
 use Rattle.lists.specs.Lists.{list_decision}
 use Rattle.circuits.specs.Circuits.{id_at}
 use Rattle.circuits.proofs.Circuits.{id_short}
@@ -39,16 +39,16 @@ module _ (ids : List ℕ) (card : Card) (p : ℕ) (ht : card.head.counter.number
     white-begins k =
         by_cond ByJoin (eqb (admit_number channels card card.head.white_cac p k) 0) _ _ (λ _. silent refl) (λ _. silent refl)
 
-    list_begins : good_flow f ≡ true → (k : ℕ) (d : Decision) → ByJoin (by_list ids channels card p f k d)
+    list_begins : good_flow f ≡ true → (k : ℕ) (d : Option Colour) → ByJoin (by_list ids channels card p f k d)
     unfolding by_list grey_of
-    list_begins good k White = white-begins k
-    list_begins good k Grey =
+    list_begins good k (Some White) = white-begins k
+    list_begins good k (Some Grey) =
         written (
           kinds_back.admission card.head.counter.number (id_at ids p) f ht lg ls good,
           omega (arith, (sizes.short (id_at ids p) (id_short ids p)).admission card.head.counter.number f),
         )
-    list_begins good k Black = silent refl
-    list_begins good k Unlisted = silent refl
+    list_begins good k (Some Black) = silent refl
+    list_begins good k None = silent refl
 
     row-begins : good_flow f ≡ true → (x : Option ℕ) → ByJoin (join_row ids channels entries card p f x)
     unfolding join_row

@@ -7,15 +7,14 @@ ghost use Rattle.lists.specs.Lists.{list_decision};
 ghost use Rattle.speed.specs.Speed.{row_number, list_number};
 
 use flows::Flow;
-use lists::Decision;
+use lists::Colour;
 
 // The row of a flow, or 256.
 #[unsafe(no_mangle)]
 pub extern "C" fn speed_channel(channels: &[u32; 2816], n: usize, f: Flow) -> u32
     ensures { result ≡ row_number (channel_of channels.now n f) }
 {
-    let found = channels::channel_of(channels, n, f);
-    match found {
+    match channels::channel_of(channels, n, f) {
         Some(i) => i as u32,
         None => 256,
     }
@@ -26,11 +25,10 @@ pub extern "C" fn speed_channel(channels: &[u32; 2816], n: usize, f: Flow) -> u3
 pub extern "C" fn speed_list(entries: &[u32; 1536], n: usize, f: Flow) -> u32
     ensures { result ≡ list_number (list_decision entries.now n f) }
 {
-    let decision = lists::list_decision(entries, n, f);
-    match decision {
-        Decision::Black => 2,
-        Decision::Grey => 3,
-        Decision::White => 1,
-        Decision::None => 0,
+    match lists::list_decision(entries, n, f) {
+        Some(Colour::Black) => 2,
+        Some(Colour::Grey) => 3,
+        Some(Colour::White) => 1,
+        None => 0,
     }
 }

@@ -9,8 +9,8 @@ use Rattle.flows.specs.declared.Flow.{Flow}
 use Rattle.flows.specs.Flows.{good_flow}
 use Rattle.channels.specs.Channels.{channel_at, channel_of}
 use Rattle.channels.proofs.Channels.{channel-found}
-use Rattle.lists.specs.declared.Decision.{Decision}
-use Rattle.lists.specs.declared.Decision.TheVariants.{Black, Grey, White, None as Unlisted}
+use Rattle.lists.specs.declared.Colour.{Colour}
+use Rattle.lists.specs.declared.Colour.TheVariants.{Black, Grey, White}
 use Rattle.lists.specs.Lists.{list_decision}
 use Rattle.circuits.specs.Circuits.{id_at}
 use Rattle.ports.specs.Ports.{may_ask}
@@ -76,14 +76,14 @@ module _ (t : Tables) (card : Card) where
         unfolding channel_at
         channel_words k = (refl, refl)
 
-        list_writes : good_flow f ≡ true → FourWords f → (k : ℕ) (d : Decision) → ByJoin (by_list t.ids t.channels card p f k d)
+        list_writes : good_flow f ≡ true → FourWords f → (k : ℕ) (d : Option Colour) → ByJoin (by_list t.ids t.channels card p f k d)
         unfolding by_list grey_of white_of
-        list_writes good four k White =
+        list_writes good four k (Some White) =
             by_cond ByJoin (eqb (admit_number t.channels card card.head.white_cac p k) 0) _ _ (λ _. nothing) (λ _. nothing)
-        list_writes good four k Grey =
+        list_writes good four k (Some Grey) =
             admission (kinds_back.admission card.head.counter.number (id_at t.ids p) f range four.0 four.1 good)
-        list_writes good four k Black = nothing
-        list_writes good four k Unlisted = nothing
+        list_writes good four k (Some Black) = nothing
+        list_writes good four k None = nothing
 
         row-writes : good_flow f ≡ true → (r : Option ℕ) → channel_of t.channels card.head.channel_count f ≡ r
             → ByJoin (join_row t.ids t.channels t.entries card p f r)

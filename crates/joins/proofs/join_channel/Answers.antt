@@ -1,5 +1,6 @@
-use mathlib.Core.Path.{◌≡◌, refl, sym, ◌∙◌}
+use mathlib.Core.Path.{◌≡◌, refl, sym, ap, ◌∙◌}
 use mathlib.Core.Bool.{false}
+use Rattle.std.specs.Prelude.{Some}
 use Rattle.pool.specs.declared.Pool.{Pool}
 use Rattle.pool.specs.Pool.{active_in, pool_of}
 use Rattle.card.specs.Cards.{with_pool}
@@ -30,7 +31,7 @@ returns-in-White c =
     let idle : active_in c.args.owner.now c.args.channel.now c.args.p c.args.k ≡ false = sym c.is_active.ensures ∙ c.if-is_active.false in
     let a = c.args in
     comes_as (c.join_white.ensures a.reply.now)
-    (λ card h. row_list a.ids.now a.channels.now a.entries.now (with_pool card maps) a.p a.f a.k idle (decided_is h a.entries.now a.f c.list_decision-decision.ensures) c.in-White.is)
+    (λ card h. row_list a.ids.now a.channels.now a.entries.now (with_pool card maps) a.p a.f a.k idle (decided_is h a.entries.now a.f c.list_decision.ensures.value) (c.in-Some.is ∙ ap Some c.in-White.is))
 
 pub returns-in-Grey : goal.returns-in-Grey
 unfolding by_list
@@ -39,7 +40,7 @@ returns-in-Grey c =
     let idle : active_in c.args.owner.now c.args.channel.now c.args.p c.args.k ≡ false = sym c.is_active.ensures ∙ c.if-is_active.false in
     let a = c.args in
     comes_as (c.join_grey.ensures maps)
-    (λ card h. row_list a.ids.now a.channels.now a.entries.now (with_pool card maps) a.p a.f a.k idle (decided_is h a.entries.now a.f c.list_decision-decision.ensures) c.in-Grey.is)
+    (λ card h. row_list a.ids.now a.channels.now a.entries.now (with_pool card maps) a.p a.f a.k idle (decided_is h a.entries.now a.f c.list_decision.ensures.value) (c.in-Some.is ∙ ap Some c.in-Grey.is))
 
 pub returns-in-Black : goal.returns-in-Black
 unfolding by_list
@@ -48,13 +49,13 @@ returns-in-Black c =
     let idle : active_in c.args.owner.now c.args.channel.now c.args.p c.args.k ≡ false = sym c.is_active.ensures ∙ c.if-is_active.false in
     let a = c.args in
     comes-kept refl 3 c.unchanged-in-Black.ensures
-    (λ card h. row_list a.ids.now a.channels.now a.entries.now (with_pool card maps) a.p a.f a.k idle (decided_is h a.entries.now a.f c.list_decision-decision.ensures) c.in-Black.is)
+    (λ card h. row_list a.ids.now a.channels.now a.entries.now (with_pool card maps) a.p a.f a.k idle (decided_is h a.entries.now a.f c.list_decision.ensures.value) (c.in-Some.is ∙ ap Some c.in-Black.is))
 
-pub returns-in-None : goal.returns-in-None
+pub returns-in_default : goal.returns-in_default
 unfolding by_list
-returns-in-None c =
+returns-in_default c =
     let maps : Pool = pool_of c.args.owner.now c.args.channel.now c.args.charged.now c.args.accounting.now in
     let idle : active_in c.args.owner.now c.args.channel.now c.args.p c.args.k ≡ false = sym c.is_active.ensures ∙ c.if-is_active.false in
     let a = c.args in
-    comes-kept refl 3 c.unchanged-in-None.ensures
-    (λ card h. row_list a.ids.now a.channels.now a.entries.now (with_pool card maps) a.p a.f a.k idle (decided_is h a.entries.now a.f c.list_decision-decision.ensures) c.in-None.is)
+    comes-kept refl 3 c.unchanged-in_default.ensures
+    (λ card h. row_list a.ids.now a.channels.now a.entries.now (with_pool card maps) a.p a.f a.k idle (decided_is h a.entries.now a.f c.list_decision.ensures.value) c.in_default.is)
