@@ -5,18 +5,20 @@
 --     row_skip          a search goes on to the next row that has a word of the flow's group
 -- Assumes nothing.
 use Rattle.std.specs.Prelude.{Option, Some, None}
-use Prim.Native.Nat.{ℕ, zero, suc, ◌+◌, ◌*◌, ◌-◌, ◌<◌, min}
+use Prim.Native.Nat.{ℕ, zero, suc, ◌+◌, ◌*◌, ◌-◌, ◌≤◌, ◌<◌, min}
 use mathlib.Core.Path.{◌≡◌, refl, sym, ap, ◌∙◌}
 use mathlib.Core.Bool.{false, false≢true}
 use mathlib.Core.List.{List}
 use lib.ListN.{get_or}
 use native.Mathlib.Omega.{arith}
+use lib.Dec.{eqb}
+use borrow.Author.Tests.{eqb-false}
 use Rattle.octets.proofs.Tests.{false_by}
 use Rattle.flows.specs.Words.{address_at}
 use Rattle.flows.specs.Flows.{same_flow}
 use Rattle.flows.specs.declared.Flow.{Flow}
 use Rattle.flows.proofs.Same.{same-flow_eq, same-flow_refl}
-use Rattle.rows.specs.Rows.{first_from, NextWith}
+use Rattle.rows.specs.Rows.{first_from}
 use Rattle.rows.proofs.Rows.{found_at, found_none}
 use Rattle.rows.proofs.Nexts.{first-over}
 use Rattle.channels.specs.Channels.{channel_at, group_word, is_row, channel_of}
@@ -60,6 +62,7 @@ other_row t i k f h n =
     sym (false_by (same_flow (channel_at t i) f) (λ e.
     n (sym (address_at_lem t (i * 11 + 3) k h) ∙ ap (λ (g : Flow). get_or g.group k 0) (same-flow_eq (channel_at t i) f e))))
 
-pub row_skip : (t : List ℕ) (k : ℕ) (f : Flow) (i n : ℕ) {j : ℕ} {r : Option ℕ} → k < 4 → r ≡ first_from i (n - i) (is_row t f)
-    → NextWith (group_word t k) (get_or f.group k 0) n i j → r ≡ first_from j (n - j) (is_row t f)
-row_skip t k f i n {j} h inv x = first-over (is_row t f) i n j inv x.reached x.most (λ m a b. other_row t m k f h (x.others m a b))
+pub row_skip : (t : List ℕ) (k : ℕ) (f : Flow) (i n j : ℕ) {r : Option ℕ} → k < 4 → r ≡ first_from i (n - i) (is_row t f)
+    → i ≤ j → j ≤ n → ((m : ℕ) → i ≤ m → m < j → eqb (group_word t k m) (get_or f.group k 0) ≡ false)
+    → r ≡ first_from j (n - j) (is_row t f)
+row_skip t k f i n j h inv l u x = first-over (is_row t f) i n j inv l u (λ m a b. other_row t m k f h (eqb-false _ _ (x m a b)))

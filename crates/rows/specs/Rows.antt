@@ -27,6 +27,11 @@ pub record NextWith (word : ℕ → ℕ) (x n from r : ℕ) : Type 0 where
   pub has : r < n → word r ≡ x
   pub others : (i : ℕ) → from ≤ i → i < r → word i ≡ x → ⊥
 
+-- the first row from `from` on that passes, and none where none of the n rows does: gives i b says that the test of row i gives b
+abbrev pub NextRow : (ℕ → Bool → Type 0) → ℕ → ℕ → Option ℕ → Type 0
+NextRow gives n from None = (i : ℕ) → from ≤ i → i < n → gives i false
+NextRow gives n from (Some r) = (from ≤ r) × (r < n) × gives r true × ((i : ℕ) → from ≤ i → i < r → gives i false)
+
 -- a table of n rows has at most so many, and each passes the test
 unfoldable pub rows_ok : ℕ → ℕ → (ℕ → Bool) → Bool
 rows_ok most n test = every (leb n most ∷ all_of n test ∷ [])

@@ -1,9 +1,43 @@
+#![tactic(auto)]
+
 // Rows of a table: how many there are, and which is the first of its kind.
-ghost use Rattle.std.specs.Prelude.{◌≡◌, min};
+ghost use Rattle.std.specs.Prelude.{◌≡◌, ◌≤◌, ◌<◌, ◌+◌, ◌^◌, ℕ, true, false, min};
+ghost use Rattle.rows.specs.Rows.{NextRow};
 
 // A table has so many rows and no more, whatever count is given with it.
 pub fn at_most(n: usize, rows: usize) -> usize
     ensures { result ≡ min n rows }
 {
-    if n <= rows { n } else { rows }
+    n.min(rows)
+}
+
+// The first row from `from` on that passes the test: others are passed over 8 at a time, then singly.
+pub fn next_row<F: Fn(usize) -> bool>(passes: F, rows: usize, from: usize) -> Option<usize>
+    requires within { from ≤ rows }
+    requires callable { (i : ℕ) → i < rows → F.pre passes i }
+    ensures { NextRow (λ i b. F.post passes i b) rows from result }
+{
+    let mut i = from;
+    while rows - i >= 8 && none_of(&passes, i, 8) {
+        i += 8;
+    }
+    for row in i..rows {
+        if passes(row) {
+            return Some(row);
+        }
+    }
+    None
+}
+
+// None of the n rows from `at` on passes. There is no early end, so that the compiler writes out all n tests.
+fn none_of<F: Fn(usize) -> bool>(passes: &F, at: usize, n: usize) -> bool
+    requires within { at + n < 2 ^ 64 }
+    requires callable { (i : ℕ) → at ≤ i → i < at + n → F.pre passes.now i }
+    ensures { result ≡ true → (i : ℕ) → at ≤ i → i < at + n → F.post passes.now i false }
+{
+    let mut none = true;
+    for i in at..at + n {
+        none &= !passes(i);
+    }
+    none
 }
