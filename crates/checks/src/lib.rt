@@ -19,8 +19,7 @@ use tlv::First;
 pub fn port_named(ids: &[u8; 4096], port_count: usize, tlvs: &[u8]) -> usize
     ensures { result ≡ port_named ids.now port_count tlvs.now }
 {
-    let found = circuits::port_of(ids, port_count, id_in(tlvs));
-    match found {
+    match circuits::port_of(ids, port_count, id_in(tlvs)) {
         None => 64,
         Some(p) => p as usize,
     }
@@ -110,16 +109,12 @@ fn put_enclosed(buf: &mut [u8], kind: u8, tlvs: &[u8], code: u16) -> usize
     requires { (4584 ≤ length buf.old) × (length tlvs.now ≤ 4096) }
     ensures { Wrote (enclosed_of kind tlvs.now code) result buf.old buf.new }
 {
-    if code == 0x54 {
-        return rules::put_missing(buf, rules::rules_of(kind), tlvs);
+    match code {
+        0x54 => rules::put_missing(buf, rules::rules_of(kind), tlvs),
+        0x55 => put_fault(buf, kind, tlvs),
+        0x500 | 0x6 => writers::put_target(buf, id_in(tlvs)),
+        _ => 0,
     }
-    if code == 0x55 {
-        return put_fault(buf, kind, tlvs);
-    }
-    if code == 0x500 || code == 0x6 {
-        return writers::put_target(buf, id_in(tlvs));
-    }
-    0
 }
 
 // A copy of the first TLV at fault.
@@ -128,10 +123,8 @@ fn put_fault(buf: &mut [u8], kind: u8, tlvs: &[u8]) -> usize
     ensures { Wrote (copy_of (faults kind tlvs.now)) result buf.old buf.new }
 {
     let t = rules::from_fault(kind, tlvs);
-    let next = tlv::first_tlv(t);
-    match next {
-        First::End => 0,
-        First::Broken => 0,
+    match tlv::first_tlv(t) {
+        First::End | First::Broken => 0,
         First::Tlv {
             kind: k,
             len,

@@ -1,28 +1,29 @@
 -- What is missing among the TLVs that a message's rules name.
 --     stands_by                    a TLV of a type stands, as the code tells it
---     missing_on, missing-here, missing_end     a search for the first rule that lacks its TLV, turn by turn
+--     any-missing                  one of the rules lacks its TLV
+--     missing_on, missing_end      a search for the first rule that lacks its TLV, turn by turn
 --     bares-turn, bares_most       bare headers written one directly after the other
 --     free-lacks, marked-lacks     a rule that is not needed, or of whose type a TLV was seen
 -- Assumes nothing.
 use mathlib.Core.Path.{◌≡◌, refl, sym, ap, ◌∙◌}
-use mathlib.Core.Bool.{Bool, true, false, cond, not, ◌&&◌, false≢true}
+use mathlib.Core.Bool.{Bool, true, false, cond, not, ◌&&◌, ◌||◌, false≢true}
 use mathlib.Core.List.{List, [], ◌∷◌, ◌++◌, append-nil, append_assoc}
-use Prim.Native.Nat.{ℕ, zero, suc, ◌+◌, ◌-◌, ◌*◌, ◌≤◌, ◌<◌}
+use Prim.Native.Nat.{ℕ, suc, ◌+◌, ◌-◌, ◌*◌, ◌≤◌, ◌<◌}
 use native.Mathlib.Omega.{arith}
 use native.Mathlib.Numerals.{add-one}
 use lib.ListN.{length, take, drop, get_or, length-append, length-take, drop_of_length-le}
-use lib.Seq.{take-suc, drop-cons, get_or-take, length-take-le}
+use lib.Seq.{take-suc, drop-cons}
 use lib.Dec.{eqb, ltb}
 use borrow.Author.Tests.{lt-ltb, ne_eqb}
 use borrow.Rule.Slice.PartMut.{put_mid}
+use Rattle.std.specs.List.{list_any}
 use Rattle.octets.specs.Writing.{over, Wrote}
 use Rattle.octets.proofs.Writing.{lent-after}
 use Rattle.items.specs.Items.{Item, of_type, count_of, from_type}
 use Rattle.writers.specs.Tlvs.{bare_of}
 use Rattle.writers.proofs.Tlvs.{length-tlv}
 use Rattle.rules.specs.declared.Rule.{Rule}
-use Rattle.rules.specs.declared.Rules.{Rules}
-use Rattle.rules.specs.Rules.{rule, rule_at, all_rules, rules_in}
+use Rattle.rules.specs.Rules.{rule}
 use Rattle.rules.specs.Named.{lacks, missing, bares}
 
 -- ---- a TLV of type t stands
@@ -42,44 +43,35 @@ module _ (t : ℕ) where
 abbrev pub none : Rule
 none = rule 0 false false
 
--- as the code has it
-pub rule_is : (r : Rules) (i : ℕ) → i < 4 → get_or (all_rules r) i none ≡ rule_at r i
-rule_is r zero h = refl
-rule_is r (suc zero) h = refl
-rule_is r (suc (suc zero)) h = refl
-rule_is r (suc (suc (suc zero))) h = refl
-rule_is r (suc (suc (suc (suc i)))) h = absurd (omega arith)
-
-module _ (list : List Rule) (n i : ℕ) (short : n ≤ length list) (h : i < n) where
-  -- the rules from i on begin with that at i
-  pub rules_cons : drop i (take n list) ≡ get_or list i none ∷ drop (i + 1) (take n list)
-  rules_cons =
-      drop-cons (take n list) i none (omega (arith, length-take-le n list short))
-      ∙ ap (λ (r : Rule). r ∷ drop (suc i) (take n list)) (get_or-take n list i none h)
-      ∙ ap (λ (k : ℕ). get_or list i none ∷ drop k (take n list)) (sym (add-one i))
-
-pub rules-past : (list : List Rule) (n i : ℕ) → n ≤ i → drop i (take n list) ≡ []
-rules-past list n i h = drop_of_length-le (take n list) {i = i} (omega (arith, length-take n list))
+-- the rules from i on begin with that at i
+pub rules_cons : (rs : List Rule) (i : ℕ) → i < length rs → drop i rs ≡ get_or rs i none ∷ drop (i + 1) rs
+rules_cons rs i h = drop-cons rs i none h ∙ ap (λ (k : ℕ). get_or rs i none ∷ drop k rs) (sym (add-one i))
 
 module _ (is : List Item) where
+  -- as the code asks each rule
+  pub any-missing : (rs : List Rule) → list_any (λ (r : Rule). lacks r is) rs ≡ ltb 0 (length (missing rs is))
+  unfolding missing
+  any-missing [] = refl
+  any-missing (r ∷ rs) = by (lacks r is) (any-missing rs)
+    where
+      by : (b : Bool) → list_any (λ (r : Rule). lacks r is) rs ≡ ltb 0 (length (missing rs is))
+          → (b || list_any (λ (r : Rule). lacks r is) rs) ≡ ltb 0 (length (cond b (r.kind ∷ missing rs is) (missing rs is)))
+      by true h = sym (lt-ltb 0 (length (r.kind ∷ missing rs is)) (omega arith))
+      by false h = h
+
   lacks-tells : (b : Bool) (r : Rule) (rs : List Rule) → lacks r is ≡ b → missing (r ∷ rs) is ≡ cond b (r.kind ∷ missing rs is) (missing rs is)
   unfolding missing
   lacks-tells b r rs e = ap (λ (x : Bool). cond x (r.kind ∷ missing rs is) (missing rs is)) e
 
-  module _ (list : List Rule) (n i : ℕ) (short : n ≤ length list) (h : i < n) (inv : missing (take n list) is ≡ missing (drop i (take n list)) is) where
-    pub missing-here : lacks (get_or list i none) is ≡ true → true ≡ ltb 0 (length (missing (take n list) is))
-    missing-here e =
-        let m = inv ∙ ap (λ (rs : List Rule). missing rs is) (rules_cons list n i short h) ∙ lacks-tells true (get_or list i none) (drop (i + 1) (take n list)) e in
-        sym (lt-ltb 0 (length (missing (take n list) is)) (omega (arith, ap length m)))
-
-    pub missing_on : lacks (get_or list i none) is ≡ false → missing (take n list) is ≡ missing (drop (i + 1) (take n list)) is
-    missing_on e = inv ∙ ap (λ (rs : List Rule). missing rs is) (rules_cons list n i short h) ∙ lacks-tells false (get_or list i none) (drop (i + 1) (take n list)) e
+  pub missing_on : (rs : List Rule) (i : ℕ) → i < length rs → missing rs is ≡ missing (drop i rs) is → lacks (get_or rs i none) is ≡ false
+      → missing rs is ≡ missing (drop (i + 1) rs) is
+  missing_on rs i h inv e = inv ∙ ap (λ (l : List Rule). missing l is) (rules_cons rs i h) ∙ lacks-tells false (get_or rs i none) (drop (i + 1) rs) e
 
   -- past the last
-  pub missing_end : (list : List Rule) (n i : ℕ) → n ≤ i → missing (take n list) is ≡ missing (drop i (take n list)) is → false ≡ ltb 0 (length (missing (take n list) is))
+  pub missing_end : (rs : List Rule) (i : ℕ) → length rs ≤ i → missing rs is ≡ missing (drop i rs) is → false ≡ ltb 0 (length (missing rs is))
   unfolding missing
-  missing_end list n i h inv =
-      ap (λ (l : List ℕ). ltb 0 (length l)) (sym (inv ∙ ap (λ (rs : List Rule). missing rs is) (rules-past list n i h)))
+  missing_end rs i h inv =
+      ap (λ (l : List ℕ). ltb 0 (length l)) (sym (inv ∙ ap (λ (l : List Rule). missing l is) (drop_of_length-le rs {i = i} h)))
 
 -- ---- their bare headers
 pub length-bares : (ts : List ℕ) → length (bares ts) ≡ 4 * length ts
@@ -179,12 +171,9 @@ module _ (r : Rule) (is : List Item) where
 abbrev pub Marked : List Rule → List Bool → List Item → Type 0
 Marked rs seen is = (j : ℕ) → get_or seen j false ≡ true → eqb (count_of (get_or rs j none).kind is) 0 ≡ false
 
-module _ (rules : Rules) (few : rules.count ≤ 4) (is : List Item) (i : ℕ) (h : i < rules.count) where
-  abbrev the : Rule
-  the = get_or (all_rules rules) i none
+module _ (rs : List Rule) (is : List Item) (i : ℕ) where
+  pub free-lacks : (get_or rs i none).needed ≡ false → lacks (get_or rs i none) is ≡ false
+  free-lacks e = sym (lacks-free (get_or rs i none) is e)
 
-  pub free-lacks : get_or rules.needed i false ≡ false → lacks the is ≡ false
-  free-lacks e = sym (lacks-free the is (ap (λ (r : Rule). r.needed) (rule_is rules i (omega arith)) ∙ e))
-
-  pub marked-lacks : (seen : List Bool) → Marked (rules_in rules) seen is → get_or seen i false ≡ true → lacks the is ≡ false
-  marked-lacks seen m e = sym (lacks-stands the is (ap not (ap (λ (r : Rule). eqb (count_of r.kind is) 0) (sym (get_or-take rules.count (all_rules rules) i none h)) ∙ m i e)))
+  pub marked-lacks : (seen : List Bool) → Marked rs seen is → get_or seen i false ≡ true → lacks (get_or rs i none) is ≡ false
+  marked-lacks seen m e = sym (lacks-stands (get_or rs i none) is (ap not (m i e)))

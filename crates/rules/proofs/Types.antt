@@ -1,18 +1,16 @@
 -- What the rules of a message type ask.
 --     tried_any, tried-handled     what is tried on each line of the table holds of the rules of any type
 --     handled-by                 a type is handled where it has a rule, as the code tells it
---     filled                     a table of rules whose arrays are whole
 -- Assumes nothing.
 use mathlib.Core.Path.{◌≡◌, refl}
-use mathlib.Core.Bool.{Bool, true, false, cond, ◌&&◌, ◌||◌, false≢true}
+use mathlib.Core.Bool.{Bool, true, false, cond, not, ◌&&◌, ◌||◌, false≢true}
 use mathlib.Core.List.{List, [], ◌∷◌}
-use Prim.Native.Nat.{ℕ, ◌≤◌}
+use Prim.Native.Nat.{ℕ}
 use lib.ListN.{length}
-use lib.Dec.{eqb, ltb}
+use lib.Dec.{eqb}
 use Rattle.octets.proofs.Tests.{both}
 use Rattle.rules.specs.declared.Rule.{Rule}
-use Rattle.rules.specs.declared.Rules.{Rules}
-use Rattle.rules.specs.Rules.{MessageType, types, is_among, rules_among, handled, rules_of, Filled}
+use Rattle.rules.specs.Rules.{MessageType, types, is_among, rules_among, handled, rules_of}
 
 -- ---- the table line by line
 -- what is tried on each line of the table holds of the rules of any type: a line more needs no case here
@@ -41,22 +39,18 @@ module _ (test : List Rule → Bool) where
       go false p n f = f n
 
 -- a type is handled where it has a rule
-by-rules : (ts : List MessageType) (kind : ℕ) → tried (λ rs. ltb 0 (length rs)) ts ≡ true → ltb 0 (length (rules_among kind ts)) ≡ is_among kind ts
+by-rules : (ts : List MessageType) (kind : ℕ) → tried (λ rs. not (eqb (length rs) 0)) ts ≡ true → not (eqb (length (rules_among kind ts)) 0) ≡ is_among kind ts
 unfolding tried rules_among is_among
 by-rules [] kind h = refl
 by-rules (t ∷ ts) kind h =
-    let k = both (ltb 0 (length t.rules)) (tried (λ rs. ltb 0 (length rs)) ts) h in
+    let k = both (not (eqb (length t.rules) 0)) (tried (λ rs. not (eqb (length rs) 0)) ts) h in
     go (eqb kind t.kind) k.0 (by-rules ts kind k.1)
   where
-    go : (b : Bool) → ltb 0 (length t.rules) ≡ true → ltb 0 (length (rules_among kind ts)) ≡ is_among kind ts
-        → ltb 0 (length (cond b t.rules (rules_among kind ts))) ≡ (b || is_among kind ts)
+    go : (b : Bool) → not (eqb (length t.rules) 0) ≡ true → not (eqb (length (rules_among kind ts)) 0) ≡ is_among kind ts
+        → not (eqb (length (cond b t.rules (rules_among kind ts))) 0) ≡ (b || is_among kind ts)
     go true e f = e
     go false e f = f
 
-pub handled-by : (kind : ℕ) → ltb 0 (length (rules_of kind)) ≡ handled kind
+pub handled-by : (kind : ℕ) → not (eqb (length (rules_of kind)) 0) ≡ handled kind
 unfolding handled rules_of tried
 handled-by kind = by-rules types kind refl
-
--- ---- a table of rules whose arrays are whole
-pub filled : {r : Rules} → r.count ≤ 4 → length r.kinds ≡ 4 → length r.instead ≡ 4 → length r.needed ≡ 4 → length r.single ≡ 4 → Filled r
-filled a b c d e = record { few = a; kinds = b; instead = c; needed = d; single = e }

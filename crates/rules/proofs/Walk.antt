@@ -1,7 +1,8 @@
 -- The walk to the first TLV at fault.
---     place_start, place_here, place_on, place_end     a search for the rule of a type, turn by turn
+--     place_some, place-none         the place of the rule for a type, as the code finds it
 --     walk_start, walk-free, walk-good, walk-fault, walk_end     its beginning, one turn, and its end
 --     extent_fault, extent_last      how far it goes, by where it ends
+--     turn-free, turn_below, turn-good, turn-fault      one turn, by a step of the reader
 --     extent_all, extent_fits, extent_rest, extent_bad     what is known by it
 -- Assumes nothing.
 use mathlib.Core.Path.{◌≡◌, refl, sym, ap, subst, ◌∙◌}
@@ -9,44 +10,51 @@ use mathlib.Core.Bool.{Bool, true, false, cond, not, ◌&&◌, ◌||◌, false�
 use mathlib.Core.List.{List, [], ◌∷◌}
 use Prim.Native.Nat.{ℕ, zero, suc, ◌+◌, ◌≤◌, ◌<◌}
 use native.Mathlib.Omega.{arith}
+use native.Mathlib.Numerals.{one-add}
 use lib.ListN.{length, take, drop, get_or, set, replicate}
 use lib.Seq.{get_or-set_same, get_or-set_other}
 use lib.Dec.{eqb, ltb}
 use borrow.Author.Tests.{ltb-true, ltb-false, eqb-true, eqb-false, eq-eqb, ne_eqb}
-use Rattle.std.specs.Prelude.{Option, Some, None}
-use Rattle.items.specs.Items.{Item, items_of, of_type, count_of}
+use Rattle.std.specs.Prelude.{Option, Some, None, nat_lt, position, unwrap_or}
+use Rattle.std.specs.List.{position_or_len}
+use Rattle.std.proofs.lemmas.List.Recursion.{is_position_or_len}
+use Rattle.tlv.specs.declared.First.TheVariants.{Tlv}
+use Rattle.reader.specs.declared.Step.{Step}
+use Rattle.reader.specs.Reader.{step_at}
+use Rattle.reader.proofs.Steps.{step-tlv}
+use Rattle.items.specs.Items.{Item, item, items_of, of_type, count_of}
 use Rattle.rules.specs.declared.Rule.{Rule}
-use Rattle.rules.specs.Named.{missing, content_ok, stood, at_fault, from_fault, place_of, HasExtent}
-use Rattle.rules.proofs.Named.{none, rules_cons, rules-past, Marked}
-
--- ---- one TLV by its rule
-pub single_left : (single again ok : Bool) → single ≡ false → not ok ≡ ((single && again) || not ok)
-single_left single again ok h = rw h
-
-pub again-left : (single again ok : Bool) → again ≡ false → not ok ≡ ((single && again) || not ok)
-again-left true again ok h = rw h
-again-left false again ok h = refl
+use Rattle.rules.specs.Named.{missing, content_ok, stood, at_fault, from_fault, HasExtent}
+use Rattle.rules.proofs.Named.{none, Marked}
 
 -- ---- the place of the rule for a type
+-- the first of that type; as many as there are where there is none
+unfoldable pub place_of : ℕ → List Rule → ℕ
+place_of t [] = 0
+place_of t (r ∷ rs) = cond (eqb t r.kind) 0 (suc (place_of t rs))
+
 module _ (t : ℕ) where
-  at-by : (b : Bool) (r : Rule) (rs : List Rule) → eqb t r.kind ≡ b → place_of t (r ∷ rs) ≡ cond b 0 (suc (place_of t rs))
+  -- as the code has it
+  abbrev its : Rule → Bool
+  its r = eqb t r.kind
+
+  place_is : (rs : List Rule) → place_of t rs ≡ position_or_len its rs
   unfolding place_of
-  at-by b r rs e = ap (λ (x : Bool). cond x 0 (suc (place_of t rs))) e
+  place_is = is_position_or_len (place_of t) its refl (λ r rs. ap (cond (its r) 0) (sym (one-add (place_of t rs))))
 
-  module _ (list : List Rule) (n i : ℕ) (short : n ≤ length list) (inv : place_of t (take n list) ≡ i + place_of t (drop i (take n list))) where
-    pub place_here : i < n → t ≡ (get_or list i none).kind → i ≡ place_of t (take n list)
-    place_here h e =
-        let p = ap (place_of t) (rules_cons list n i short h) ∙ at-by true (get_or list i none) (drop (i + 1) (take n list)) (eq-eqb _ _ e) in
-        omega arith
+  pub place_some : (rs : List Rule) {j : ℕ} → position its rs ≡ Some j → (j ≡ place_of t rs) × (j < length rs)
+  place_some rs {j} e = by (nat_lt (position_or_len its rs) (length rs)) refl e
+    where
+      by : (b : Bool) → nat_lt (position_or_len its rs) (length rs) ≡ b → cond b (Some (position_or_len its rs)) None ≡ Some j → (j ≡ place_of t rs) × (j < length rs)
+      by true l k = let same : position_or_len its rs ≡ j = ap (λ (o : Option ℕ). unwrap_or o 0) k in (sym (place_is rs ∙ same), omega (arith, same, ltb-true _ _ l))
+      by false l k = cc
 
-    pub place_on : i < n → (t ≡ (get_or list i none).kind → ⊥) → place_of t (take n list) ≡ i + 1 + place_of t (drop (i + 1) (take n list))
-    place_on h e =
-        let p = ap (place_of t) (rules_cons list n i short h) ∙ at-by false (get_or list i none) (drop (i + 1) (take n list)) (ne_eqb _ _ e) in
-        omega arith
-
-    pub place_end : n ≤ i → i ≤ n → n ≡ place_of t (take n list)
-    unfolding place_of
-    place_end h k = let p = ap (place_of t) (rules-past list n i h) in omega arith
+  pub place-none : (rs : List Rule) → position its rs ≡ None → length rs ≤ place_of t rs
+  place-none rs e = by (nat_lt (position_or_len its rs) (length rs)) refl e
+    where
+      by : (b : Bool) → nat_lt (position_or_len its rs) (length rs) ≡ b → cond b (Some (position_or_len its rs)) None ≡ None → length rs ≤ place_of t rs
+      by true l k = cc
+      by false l k = omega (arith, place_is rs, ltb-false _ _ l)
 
   -- what stands there
   pub placed : (rs : List Rule) → place_of t rs < length rs → (get_or rs (place_of t rs) none).kind ≡ t
@@ -143,20 +151,19 @@ module _ (rs : List Rule) (seen : List Bool) (all : List Item) (i : Item) (is : 
         marked = w.marked;
       }
 
-  module _ (j : ℕ) (single : Bool) (e : j ≡ place_of i.kind rs) (h : j < length rs) (is-single : (get_or rs j none).single ≡ single) where
+  module _ (j : ℕ) (e : j ≡ place_of i.kind rs) (h : j < length rs) where
     here : place_of i.kind rs < length rs
     here = omega arith
 
     -- as the code tests it
     abbrev test : Bool
-    test = (single && get_or seen j false) || not (content_ok i.kind i.content)
+    test = ((get_or rs j none).single && get_or seen j false) || not (content_ok i.kind i.content)
 
     tested : (b : Bool) → test ≡ b → at_fault rs w.before i ≡ b
     tested b t =
         fault-at w.before i rs here
         ∙ ap (λ (x : Bool). ((get_or rs (place_of i.kind rs) none).single && x) || not (content_ok i.kind i.content)) (sym (w.marks i.kind here))
         ∙ ap (λ (x : ℕ). ((get_or rs x none).single && get_or seen x false) || not (content_ok i.kind i.content)) (sym e)
-        ∙ ap (λ (x : Bool). (x && get_or seen j false) || not (content_ok i.kind i.content)) is-single
         ∙ t
 
     pub walk-fault : test ≡ true → from_fault rs [] all ≡ i ∷ is
@@ -238,3 +245,28 @@ module _ (rs : List Rule) (s : List ℕ) {r : Option ℕ} (has : HasExtent rs s 
     pub extent_bad : missing rs (items_of s) ≡ [] → from_fault rs [] (items_of s) ≡ [] → ⊥
     unfolding HasExtent
     extent_bad = up_to.2
+
+-- ---- one turn of the walk, by a step of the reader that found a TLV
+abbrev content_at : List ℕ → ℕ → ℕ → List ℕ
+content_at s at n = take n (drop (at + 4) s)
+
+module _ (rs : List Rule) (seen : List Bool) (s : List ℕ) (at : ℕ) (w : Walked rs seen (items_of s) (items_of (drop at s))) {x : Step} (e : x ≡ step_at s at) {t n m : ℕ} (f : x.first ≡ Tlv t n m) where
+  begun : Walked rs seen (items_of s) (item t (content_at s at n) ∷ items_of (drop x.next s))
+  begun = subst (Walked rs seen (items_of s)) (step-tlv s at e f) w
+
+  pub turn-free : {o : Option ℕ} → o ≡ position (its t) rs → o ≡ None → Walked rs seen (items_of s) (items_of (drop x.next s))
+  turn-free p q = walk-free rs seen (items_of s) (item t (content_at s at n)) (items_of (drop x.next s)) begun (place-none t rs (sym p ∙ q))
+
+  module _ {o : Option ℕ} (p : o ≡ position (its t) rs) {j : ℕ} (q : o ≡ Some j) where
+    pub turn_below : j < length rs
+    turn_below = (place_some t rs (sym p ∙ q)).1
+
+    module _ {b : Bool} (tested : b ≡ (((get_or rs j none).single && get_or seen j false) || not (content_ok t (content_at s at n)))) where
+      pub turn-fault : at ≤ length s → b ≡ true → HasExtent rs s (Some at)
+      turn-fault fit h =
+          extent_fault rs s at fit (step-tlv s at e f)
+          (walk-fault rs seen (items_of s) (item t (content_at s at n)) (items_of (drop x.next s)) begun j (place_some t rs (sym p ∙ q)).0 turn_below (sym tested ∙ h))
+
+      pub turn-good : j < length seen → b ≡ false → Walked rs (set seen j true) (items_of s) (items_of (drop x.next s))
+      turn-good l h =
+          walk-good rs seen (items_of s) (item t (content_at s at n)) (items_of (drop x.next s)) begun j (place_some t rs (sym p ∙ q)).0 turn_below l (sym tested ∙ h)

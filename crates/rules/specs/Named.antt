@@ -1,6 +1,6 @@
 -- What is missing, and what is at fault, among the TLVs that a message's rules name. Assumes nothing: these are
 -- definitions.
-use Rattle.std.specs.Prelude.{ℕ, suc, ◌≤◌, ◌≡◌, Bool, false, cond, not, ◌&&◌, ◌||◌, List, [], ◌∷◌, ◌++◌, length, drop, eqb, Option, Some, None}
+use Rattle.std.specs.Prelude.{ℕ, ◌≤◌, ◌≡◌, Bool, false, cond, not, ◌&&◌, ◌||◌, List, [], ◌∷◌, ◌++◌, length, drop, eqb, Option, Some, None}
 use Rattle.items.specs.Items.{Item, items_of, count_of}
 use Rattle.fields.specs.Fields.{circuit_ids, length_ok}
 use Rattle.writers.specs.Tlvs.{bare_of}
@@ -46,11 +46,6 @@ from_fault rs before [] = []
 from_fault rs before (i ∷ is) = cond (at_fault rs before i) (i ∷ is) (from_fault rs (i.kind ∷ before) is)
 
 -- ---- how the code finds both; need not be believed
--- the place of the rule for type t, the first of that type; as many as there are where there is none
-unfoldable pub place_of : ℕ → List Rule → ℕ
-place_of t [] = 0
-place_of t (r ∷ rs) = cond (eqb t r.kind) 0 (suc (place_of t rs))
-
 -- how far the TLVs s are as the rules ask: all of them, where nothing is missing and nothing at fault; or up to a place,
 -- where something is, and from there on stand those from the first one at fault on
 unfoldable pub HasExtent : List Rule → List ℕ → Option ℕ → Type 0

@@ -1,9 +1,8 @@
 -- What each message type asks, by its type (CARD.md, "A message, check by check"): the TLVs that its rules name, its
 -- Results and its transaction number. A type more is a line in `types`, and one in `result_ok` and in `transaction_ok` where
 -- it asks something else. Assumes nothing: these are definitions.
-use Rattle.std.specs.Prelude.{ℕ, ◌≤◌, ◌≡◌, Bool, true, false, cond, ◌||◌, List, [], ◌∷◌, length, take, get_or, eqb, ltb}
+use Rattle.std.specs.Prelude.{ℕ, Bool, true, false, cond, ◌||◌, List, [], ◌∷◌, eqb, ltb}
 use Rattle.rules.specs.declared.Rule.{Rule}
-use Rattle.rules.specs.declared.Rules.{Rules}
 
 -- ---- the table by type
 -- the rule for the TLVs of type t in a message: `needed`, one of them must stand; `single`, no second one may. Where a
@@ -58,20 +57,3 @@ result_ok kind result =
 -- zero is no transaction: a 144, 146, 148 or 149 has one from 1 on. That of a 147 is compared with the open request's
 unfoldable pub transaction_ok : ℕ → ℕ → Bool
 transaction_ok kind transaction = eqb kind 147 || ltb 0 transaction
-
--- ---- as the code has them, field by field; need not be believed
-pub record Filled (r : Rules) : Type 0 where
-  pub few : r.count ≤ 4
-  pub kinds : length r.kinds ≡ 4
-  pub instead : length r.instead ≡ 4
-  pub needed : length r.needed ≡ 4
-  pub single : length r.single ≡ 4
-
-abbrev pub rule_at : Rules → ℕ → Rule
-rule_at r i = record { kind = get_or r.kinds i 0; instead = get_or r.instead i 0; needed = get_or r.needed i false; single = get_or r.single i false }
-
-abbrev pub all_rules : Rules → List Rule
-all_rules r = rule_at r 0 ∷ rule_at r 1 ∷ rule_at r 2 ∷ rule_at r 3 ∷ []
-
-abbrev pub rules_in : Rules → List Rule
-rules_in r = take r.count (all_rules r)

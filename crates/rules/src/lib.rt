@@ -2,11 +2,12 @@
 
 // What each message type asks, by its type: its Results, its transaction number, the TLVs that its rules name; which of
 // these are missing, and from which on one is at fault.
-ghost use Rattle.std.specs.Prelude.{◌≡◌, cond, not, ◌&&◌, ◌||◌, [], ◌∷◌, ◌≤◌, ◌<◌, length, eqb, ltb};
+ghost use Rattle.std.specs.Prelude.{◌≡◌, ◌==◌, cond, not, ◌&&◌, ◌||◌, [], ◌∷◌, ◌≤◌, ◌<◌, length, eqb, ltb, position};
 ghost use Rattle.octets.specs.Writing.{Wrote};
 ghost use Rattle.items.specs.Items.{items_of, count_of};
-ghost use Rattle.rules.specs.Rules.{handled, result_ok, transaction_ok, rules_of, Filled, rule_at, rules_in};
-ghost use Rattle.rules.specs.Named.{lacks, missing, bares, content_ok, from_fault, place_of, HasExtent};
+ghost use Rattle.rules.specs.Rules.{handled, result_ok, transaction_ok, rules_of};
+ghost use Rattle.rules.specs.declared.Rule.{Rule};
+ghost use Rattle.rules.specs.Named.{lacks, missing, bares, content_ok, from_fault, HasExtent};
 
 use fields::{ALLOCATION, COMMAND, REQUEST, TARGET};
 use tlv::First;
@@ -21,15 +22,34 @@ pub struct Rule {
     pub single: bool,
 }
 
-// The rules of a message type: the first `count`, field by field.
-#[derive(Clone, Copy)]
-pub struct Rules {
-    pub count: usize,
-    pub kinds: [u16; 4],
-    pub instead: [u16; 4],
-    pub needed: [bool; 4],
-    pub single: [bool; 4],
-}
+// Of none another type serves instead.
+const ONE_TARGET: Rule = Rule {
+    kind: TARGET,
+    instead: TARGET,
+    needed: true,
+    single: true,
+};
+
+const COMMANDS: Rule = Rule {
+    kind: COMMAND,
+    instead: COMMAND,
+    needed: true,
+    single: false,
+};
+
+const ONE_REQUEST: Rule = Rule {
+    kind: REQUEST,
+    instead: REQUEST,
+    needed: true,
+    single: true,
+};
+
+const ONE_ALLOCATION: Rule = Rule {
+    kind: ALLOCATION,
+    instead: ALLOCATION,
+    needed: true,
+    single: true,
+};
 
 // ---- by the message's type
 
@@ -37,118 +57,57 @@ pub struct Rules {
 pub fn handled(kind: u8) -> bool
     ensures { result ≡ handled kind }
 {
-    let rules = rules_of(kind);
-    0 < rules.count
+    !rules_of(kind).is_empty()
 }
 
+#[tactic(auto, unfolding(crate::specs::Rules::result_ok))]
 pub fn result_ok(kind: u8, res: u8) -> bool
     ensures { result ≡ result_ok kind res }
 {
-    if kind == 144 {
-        return res == 1 || res == 2;
+    match kind {
+        144 => res == 1 || res == 2,
+        146 => res == 0,
+        147 => true,
+        _ => res == 2,
     }
-    if kind == 146 {
-        return res == 0;
-    }
-    if kind == 147 {
-        return true;
-    }
-    res == 2
 }
 
+#[tactic(auto, unfolding(crate::specs::Rules::transaction_ok))]
 pub fn transaction_ok(kind: u8, transaction: u32) -> bool
     ensures { result ≡ transaction_ok kind transaction }
 {
     kind == 147 || 0 < transaction
 }
 
-// Of the rules: none, the first, the first two.
-const NONE: [bool; 4] = [false, false, false, false];
-
-const FIRST: [bool; 4] = [true, false, false, false];
-
-const BOTH: [bool; 4] = [true, true, false, false];
-
-// A line for each type: how many rules, the types of their TLVs, which of them are needed, which single.
-pub fn rules_of(kind: u8) -> Rules
-    ensures whole { Filled result }
-    ensures rules { rules_in result ≡ rules_of kind }
+// A line for each type.
+#[tactic(auto, unfolding(crate::specs::Rules::rules_of, crate::specs::Rules::rules_among))]
+pub fn rules_of(kind: u8) -> &'static [Rule]
+    ensures few { length result.now ≤ 2 }
+    ensures rules { result.now ≡ rules_of kind }
 {
-    if kind == 144 {
-        return rules_with(2, [TARGET, COMMAND, 0, 0], BOTH, FIRST);
-    }
-    if kind == 146 {
-        return rules_with(2, [TARGET, REQUEST, 0, 0], BOTH, BOTH);
-    }
-    if kind == 147 {
-        return rules_with(2, [TARGET, ALLOCATION, 0, 0], BOTH, BOTH);
-    }
-    if kind == 148 {
-        return rules_with(1, [TARGET, 0, 0, 0], FIRST, FIRST);
-    }
-    if kind == 149 {
-        return rules_with(1, [TARGET, 0, 0, 0], FIRST, FIRST);
-    }
-    rules_with(0, [0, 0, 0, 0], NONE, NONE)
-}
-
-// No other type serves instead.
-fn rules_with(count: usize, kinds: [u16; 4], needed: [bool; 4], single: [bool; 4]) -> Rules
-    ensures { result ≡ record { count = count; kinds = kinds; instead = kinds; needed = needed; single = single } }
-{
-    Rules {
-        count,
-        kinds,
-        instead: kinds,
-        needed,
-        single,
-    }
-}
-
-fn rule_at(rules: Rules, i: usize) -> Rule
-    requires { Filled rules × (i < 4) }
-    ensures { result ≡ rule_at rules i }
-{
-    let kinds = rules.kinds;
-    let instead = rules.instead;
-    let needed = rules.needed;
-    let single = rules.single;
-    Rule {
-        kind: kinds[i],
-        instead: instead[i],
-        needed: needed[i],
-        single: single[i],
+    match kind {
+        144 => &[ONE_TARGET, COMMANDS],
+        146 => &[ONE_TARGET, ONE_REQUEST],
+        147 => &[ONE_TARGET, ONE_ALLOCATION],
+        148 | 149 => &[ONE_TARGET],
+        _ => &[],
     }
 }
 
 // ---- what is missing
 
 // One of the types that a message needs is missing.
-pub fn is_missing(rules: Rules, tlvs: &[u8]) -> bool
-    requires { Filled rules }
-    ensures { result ≡ ltb 0 (length (missing (rules_in rules) (items_of tlvs.now))) }
+pub fn is_missing(rules: &[Rule], tlvs: &[u8]) -> bool
+    ensures { result ≡ ltb 0 (length (missing rules.now (items_of tlvs.now))) }
 {
-    let n = rules.count;
-    let mut i: usize = 0;
-    while i < n {
-        if lacks(rule_at(rules, i), tlvs) {
-            return true;
-        }
-        i += 1;
-    }
-    false
+    rules.iter().any(|r| lacks(r, tlvs))
 }
 
-fn lacks(r: Rule, tlvs: &[u8]) -> bool
-    ensures { result ≡ lacks r (items_of tlvs.now) }
+#[tactic(auto, unfolding(crate::specs::Named::lacks))]
+fn lacks(r: &Rule, tlvs: &[u8]) -> bool
+    ensures { result ≡ lacks r.now (items_of tlvs.now) }
 {
-    if !r.needed {
-        return false;
-    }
-    if stands(tlvs, r.kind) {
-        return false;
-    }
-    !stands(tlvs, r.instead)
+    r.needed && !stands(tlvs, r.kind) && !stands(tlvs, r.instead)
 }
 
 // A TLV of this type stands among them.
@@ -162,36 +121,24 @@ fn stands(tlvs: &[u8], kind: u16) -> bool
 fn is_any(tlvs: &[u8]) -> bool
     ensures { result ≡ ltb 0 (length (items_of tlvs.now)) }
 {
-    let next = tlv::first_tlv(tlvs);
-    match next {
-        First::End => false,
-        First::Broken => false,
-        First::Tlv {
-            kind: _,
-            len: _,
-            size: _,
-        } => true,
-    }
+    matches!(tlv::first_tlv(tlvs), First::Tlv { .. })
 }
 
 // A bare header of each missing type, each directly behind the one before it.
-pub fn put_missing(buf: &mut [u8], rules: Rules, tlvs: &[u8]) -> usize
-    requires { (16 ≤ length buf.old) × Filled rules }
-    ensures { Wrote (bares (missing (rules_in rules) (items_of tlvs.now))) result buf.old buf.new }
+pub fn put_missing(buf: &mut [u8], rules: &[Rule], tlvs: &[u8]) -> usize
+    requires { (length rules.now ≤ 4) × (16 ≤ length buf.old) }
+    ensures { Wrote (bares (missing rules.now (items_of tlvs.now))) result buf.old buf.new }
 {
-    let n = rules.count;
     let mut at: usize = 0;
-    let mut i: usize = 0;
-    while i < n {
-        at += put_if_missing(&mut buf[at..], rule_at(rules, i), tlvs);
-        i += 1;
+    for r in rules {
+        at += put_if_missing(&mut buf[at..], r, tlvs);
     }
     at
 }
 
-fn put_if_missing(buf: &mut [u8], r: Rule, tlvs: &[u8]) -> usize
+fn put_if_missing(buf: &mut [u8], r: &Rule, tlvs: &[u8]) -> usize
     requires { 4 ≤ length buf.old }
-    ensures { Wrote (bares (missing (r ∷ []) (items_of tlvs.now))) result buf.old buf.new }
+    ensures { Wrote (bares (missing (r.now ∷ []) (items_of tlvs.now))) result buf.old buf.new }
 {
     if lacks(r, tlvs) {
         return writers::put_bare(buf, r.kind);
@@ -210,56 +157,46 @@ pub fn extent_of(kind: u8, tlvs: &[u8]) -> Option<usize>
 }
 
 // A rule is `seen` once a TLV of its type has stood.
-fn extent_by(rules: Rules, tlvs: &[u8]) -> Option<usize>
-    requires { Filled rules }
-    ensures { HasExtent (rules_in rules) tlvs.now result }
+fn extent_by(rules: &[Rule], tlvs: &[u8]) -> Option<usize>
+    requires { length rules.now ≤ 4 }
+    ensures { HasExtent rules.now tlvs.now result }
 {
-    let n = rules.count;
-    let single = rules.single;
-    let needed = rules.needed;
     let mut seen = [false; 4];
     let mut at: usize = 0;
     loop {
         let step = reader::step_at(tlvs, at);
-        let next = step.first;
-        match next {
-            First::End => break,
-            First::Broken => break,
+        match step.first {
+            First::End | First::Broken => break,
             First::Tlv { kind, len, size: _ } => {
-                let j = place_of(rules, kind);
-                if n <= j {
-                    at = step.next;
-                    continue;
+                if let Some(j) = place_of(rules, kind) {
+                    let b = at + 4;
+                    let e = b + len;
+                    if is_fault(rules[j].single, seen[j], kind, &tlvs[b..e]) {
+                        return Some(at);
+                    }
+                    seen[j] = true;
                 }
-                let b = at + 4;
-                let e = b + len;
-                if is_fault(single[j], seen[j], kind, &tlvs[b..e]) {
-                    return Some(at);
-                }
-                seen[j] = true;
                 at = step.next;
             }
         }
     }
-    let mut i: usize = 0;
-    while i < n {
-        if needed[i] && !seen[i] {
+    for (i, r) in rules.iter().enumerate() {
+        if r.needed && !seen[i] {
             return extent_end(rules, tlvs, at);
         }
-        i += 1;
     }
     None
 }
 
 // Where none is at fault, by what is missing.
-fn extent_end(rules: Rules, tlvs: &[u8], at: usize) -> Option<usize>
-    requires { Filled rules }
-    ensures { result ≡ cond (ltb 0 (length (missing (rules_in rules) (items_of tlvs.now)))) (Some at) None }
+fn extent_end(rules: &[Rule], tlvs: &[u8], at: usize) -> Option<usize>
+    ensures { result ≡ cond (ltb 0 (length (missing rules.now (items_of tlvs.now)))) (Some at) None }
 {
     if is_missing(rules, tlvs) {
-        return Some(at);
+        Some(at)
+    } else {
+        None
     }
-    None
 }
 
 // The part from the first TLV at fault on.
@@ -272,33 +209,21 @@ pub fn from_fault<'a>(kind: u8, tlvs: &'a [u8]) -> &'a [u8]
     }
 }
 
-// The place of the rule for a type; the count where there is none.
-fn place_of(rules: Rules, t: u16) -> usize
-    requires { Filled rules }
-    ensures { result ≡ place_of t (rules_in rules) }
+// The place of the rule for a type.
+fn place_of(rules: &[Rule], t: u16) -> Option<usize>
+    ensures { result ≡ position (λ (r : Rule). t == r.kind) rules.now }
 {
-    let n = rules.count;
-    let mut i: usize = 0;
-    while i < n {
-        let r = rule_at(rules, i);
-        if t == r.kind {
-            return i;
-        }
-        i += 1;
-    }
-    n
+    rules.iter().position(|r| t == r.kind)
 }
 
 // A TLV of type t with this content is at fault by its rule; `again` tells that one stood before.
 fn is_fault(single: bool, again: bool, t: u16, content: &[u8]) -> bool
     ensures { result ≡ ((single && again) || not (content_ok t content.now)) }
 {
-    if single && again {
-        return true;
-    }
-    !content_ok(t, content)
+    single && again || !content_ok(t, content)
 }
 
+#[tactic(auto, unfolding(crate::specs::Named::content_ok))]
 fn content_ok(t: u16, content: &[u8]) -> bool
     ensures { result ≡ content_ok t content.now }
 {

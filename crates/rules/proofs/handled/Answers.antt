@@ -1,10 +1,11 @@
-use mathlib.Core.Path.{sym, ap, ◌∙◌}
+use mathlib.Core.Path.{ap, ◌∙◌}
+use mathlib.Core.Bool.{not}
+use mathlib.Core.List.{List}
 use lib.ListN.{length}
-use lib.Seq.{length-take-le}
-use lib.Dec.{ltb}
-use Rattle.rules.specs.Rules.{all_rules}
+use lib.Dec.{eqb}
+use Rattle.rules.specs.declared.Rule.{Rule}
 use Rattle.rules.proofs.Types.{handled-by}
 use Rattle.rules.proofs.handled.Goals as goal
 
 pub returns : goal.returns
-returns c = ap (ltb 0) (sym (length-take-le c.rules_of-rules.result.count (all_rules c.rules_of-rules.result) c.rules_of-rules.ensures.whole.few) ∙ ap length c.rules_of-rules.ensures.rules) ∙ handled-by c.args.kind
+returns c = ap not (c.is_empty.ensures ∙ ap (λ (rs : List Rule). eqb (length rs) 0) c.rules_of.ensures.rules) ∙ handled-by c.args.kind
