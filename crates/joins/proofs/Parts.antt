@@ -27,5 +27,5 @@ module _ {card : Card} {p : ℕ} {terms : Terms} (h : HasTerms card p terms) whe
       → x ≡ list_decision entries card.head.entry_count f
   decided_is entries f e = e ∙ ap (λ (n : ℕ). list_decision entries n f) (sym (entries_are h))
 
-  pub terms_lent : p < 64 → (pool : Pool) → AsLent (with_pool card pool) pool.owner pool.channel pool.charged p terms.port.delegation
+  pub terms_lent : p < 64 → (pool : Pool) → AsLent (with_pool card pool) pool p terms.port.delegation
   terms_lent l pool = record { owner = refl; channel = refl; charged = refl; delegation = ap (λ (y : Port). y.delegation) (port_is h l) }

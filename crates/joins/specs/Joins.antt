@@ -9,6 +9,7 @@ use Rattle.lists.specs.declared.Colour.TheVariants.{Black, Grey, White}
 use Rattle.lists.specs.Lists.{list_decision}
 use Rattle.circuits.specs.Circuits.{id_at}
 use Rattle.ports.specs.Transactions.{taken_from}
+use Rattle.pool.specs.declared.Pool.{Pool}
 use Rattle.pool.specs.Pool.{is_active, committed_of, has_room, began}
 use Rattle.card.specs.Cards.{Card, has_port, port_at, with_pool, with_counter}
 use Rattle.card.specs.Outcome.{Outcome, keeps, becomes}
@@ -22,11 +23,11 @@ fits channels card p k = leb (committed_of channels card.pool p + rate_at channe
 unfoldable pub admit_number : List ℕ → Card → Bool → ℕ → ℕ → ℕ
 admit_number channels card cac p k = cond (has_room card.pool p) (cond cac (cond (fits channels card p k) 0 4) 0) 5
 
--- the card's pool has these maps, and port p this delegation: what admission asks for
-pub record AsLent (card : Card) (owners rows : List ℕ) (charges : List Bool) (p amount : ℕ) : Type 0 where
-  pub owner : card.pool.owner ≡ owners
-  pub channel : card.pool.channel ≡ rows
-  pub charged : card.pool.charged ≡ charges
+-- the card's pool has this one's owners, channels and charges, and port p this delegation: what admission asks for
+pub record AsLent (card : Card) (pool : Pool) (p amount : ℕ) : Type 0 where
+  pub owner : card.pool.owner ≡ pool.owner
+  pub channel : card.pool.channel ≡ pool.channel
+  pub charged : card.pool.charged ≡ pool.charged
   pub delegation : (port_at card p).delegation ≡ amount
 
 -- white: the flow begins, charged exactly if White-List-CAC is on, with accounting 0

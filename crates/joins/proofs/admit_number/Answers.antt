@@ -1,11 +1,8 @@
 use mathlib.Core.Path.{◌≡◌, sym, ◌∙◌}
 use mathlib.Core.Bool.{true}
-use borrow.Author.Tests.{not-true, not-false}
-use Rattle.card.specs.Cards.{Card}
-use Rattle.pool.specs.Pool.{room_in}
+use Rattle.pool.specs.Pool.{has_room}
 use Rattle.joins.specs.Joins.{admit_number}
 use Rattle.joins.proofs.Lent.{room_lent}
-use borrow.Author.Rules.{rules}
 use Rattle.joins.proofs.admit_number.Goals as goal
 
 pub returns-then-not-has_room : goal.returns-then-not-has_room
@@ -15,14 +12,14 @@ returns-then-not-has_room c card l = rw (room_lent l ∙ sym c.has_room.ensures 
 pub returns-then-not-cac : goal.returns-then-not-cac
 unfolding admit_number
 returns-then-not-cac c card l =
-    let room : room_in c.args.owner.now c.args.p ≡ true = sym c.has_room.ensures ∙ c.if-not-has_room.false in rw (room_lent l ∙ room, c.if-not-cac.true)
+    let room : has_room c.args.pool.now c.args.p ≡ true = sym c.has_room.ensures ∙ c.if-not-has_room.false in rw (room_lent l ∙ room, c.if-not-cac.true)
 
 pub returns-then-rate_fits : goal.returns-then-rate_fits
 unfolding admit_number
 returns-then-rate_fits c card l =
-    let room : room_in c.args.owner.now c.args.p ≡ true = sym c.has_room.ensures ∙ c.if-not-has_room.false in rw (room_lent l ∙ room, c.if-not-cac.false, sym (c.rate_fits.ensures card l) ∙ c.if-rate_fits.true)
+    let room : has_room c.args.pool.now c.args.p ≡ true = sym c.has_room.ensures ∙ c.if-not-has_room.false in rw (room_lent l ∙ room, c.if-not-cac.false, sym (c.rate_fits.ensures card l) ∙ c.if-rate_fits.true)
 
 pub returns : goal.returns
 unfolding admit_number
 returns c card l =
-    let room : room_in c.args.owner.now c.args.p ≡ true = sym c.has_room.ensures ∙ c.if-not-has_room.false in rw (room_lent l ∙ room, c.if-not-cac.false, sym (c.rate_fits.ensures card l) ∙ c.if-rate_fits.false)
+    let room : has_room c.args.pool.now c.args.p ≡ true = sym c.has_room.ensures ∙ c.if-not-has_room.false in rw (room_lent l ∙ room, c.if-not-cac.false, sym (c.rate_fits.ensures card l) ∙ c.if-rate_fits.false)

@@ -3,7 +3,6 @@ use borrow.Author.Tests.{le-leb, leb-true}
 use Rattle.octets.proofs.Tests.{false_by, same_by}
 use Rattle.joins.specs.Joins.{fits}
 use Rattle.joins.proofs.Lent.{committed-lent}
-use borrow.Author.Rules.{rules}
 use Rattle.joins.proofs.rate_fits.Goals as goal
 
 pub returns-then-delegation-rate : goal.returns-then-delegation-rate
@@ -14,5 +13,5 @@ pub returns : goal.returns
 unfolding fits
 returns c card l =
     let committed = committed-lent l c.args.channels.now in
-    same_by _ _ (λ h. omega (arith, le-leb, leb-true, committed, l.delegation, c.rate_at-rate.ensures, c.committed_of.ensures, c.if-delegation-rate.false))
-    (λ h. omega (arith, le-leb, leb-true, committed, l.delegation, c.rate_at-rate.ensures, c.committed_of.ensures, c.if-delegation-rate.false))
+    same_by _ _ (λ h. omega (arith, le-leb, leb-true, committed, l.delegation, c.rate_at-rate.ensures, c.committed_of-committed.ensures, c.if-delegation-rate.false))
+    (λ h. omega (arith, le-leb, leb-true, committed, l.delegation, c.rate_at-rate.ensures, c.committed_of-committed.ensures, c.if-delegation-rate.false))
