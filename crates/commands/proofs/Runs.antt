@@ -1,13 +1,13 @@
--- What a function on lent maps does, of every card with its terms.
---     runs_by       the maps after it are those of y
---     runs_as       the command comes to the same as another
---     terms_lent    what admission asks for
---     listed        the channel that was found
+-- What a function on a lent pool does, of every card with its terms.
+--     runs_ok, runs_err     the pool after it is y, and it succeeded, or failed with this code
+--     runs_as               the command comes to the same as another
+--     terms_lent, lent_as   what admission asks for
+--     listed                the channel that was found
 --     failed-keeps, runs_kept       a failed command changes nothing
 -- Assumes nothing.
-use Rattle.std.specs.Prelude.{Option, Some, None}
+use Rattle.std.specs.Prelude.{Option, Some, None, Result, Ok, Err, is_err, ⊤}
 use mathlib.Core.Path.{◌≡◌, refl, sym, ap, subst, ◌∙◌}
-use mathlib.Core.Bool.{Bool, true, false, cond}
+use mathlib.Core.Bool.{Bool, true, false, cond, false≢true}
 use mathlib.Core.List.{List}
 use Prim.Native.Nat.{ℕ}
 use lib.Dec.{eqb}
@@ -15,7 +15,7 @@ use Rattle.flows.specs.declared.Flow.{Flow}
 use Rattle.channels.specs.Channels.{channel_of}
 use Rattle.ports.specs.declared.Port.{Port}
 use Rattle.pool.specs.declared.Pool.{Pool}
-use Rattle.pool.specs.Pool.{Whole, is_active, has_flow, began, ended_flow, accounted}
+use Rattle.pool.specs.Pool.{is_active, has_flow, began, ended_flow, accounted}
 use Rattle.card.specs.Cards.{Card, with_pool}
 use Rattle.card.specs.declared.Terms.{Terms}
 use Rattle.card.specs.Parts.{HasTerms}
@@ -23,24 +23,35 @@ use Rattle.card.proofs.Parts.{channels_are, record_is}
 use Rattle.joins.specs.Joins.{AsLent, admit_number}
 use Rattle.commands.specs.Directives.{Directive, directive_of}
 use Rattle.commands.specs.Directives.Directive.{malformed, add, delete, delete_all}
-use Rattle.commands.specs.Commands.{Ran, fails, succeeds, add_new, add_row, delete_flow, carried_out, ran_of, ran_with, Runs}
+use Rattle.commands.specs.Commands.{Ran, fails, succeeds, add_new, add_row, delete_flow, carried_out, ran_of, ran_with, code_of, Runs}
 
 module _ {ran : Card → Ran} {terms : Terms} {before after : Pool} where
-  pub runs_by : (code : ℕ) {y : Pool} → after ≡ y → Whole y → ((card : Card) → HasTerms card terms.at terms → ran_with card y code ≡ ran (with_pool card before))
-      → Runs ran terms before after code
-  runs_by code {y} e w f =
-      record { each = λ card h. sym (ap (λ (z : Pool). ran_with card z code) e ∙ f card h); whole = subst (λ (z : Pool). Whole z) (sym e) w }
+  pub runs_ok : {y : Pool} → after ≡ y → ((card : Card) → HasTerms card terms.at terms → ran_with card y 0 ≡ ran (with_pool card before))
+      → Runs ran terms before after (Ok tt)
+  unfolding code_of
+  runs_ok e f =
+      record { each = λ card h. sym (ap (λ (z : Pool). ran_with card z 0) e ∙ f card h); fails = λ s z. absurd (false≢true (ap is_err s)) }
 
-  pub runs_as : {other : Card → Ran} {code : ℕ} → Runs other terms before after code
-      → ((card : Card) → HasTerms card terms.at terms → other (with_pool card before) ≡ ran (with_pool card before)) → Runs ran terms before after code
-  runs_as r f = record { each = λ card h. sym (f card h) ∙ r.each card h; whole = r.whole }
+  pub runs_err : (code : ℕ) → (code ≡ 0 → ⊥) → {y : Pool} → after ≡ y → ((card : Card) → HasTerms card terms.at terms → ran_with card y code ≡ ran (with_pool card before))
+      → Runs ran terms before after (Err code)
+  unfolding code_of
+  runs_err code n e f =
+      record { each = λ card h. sym (ap (λ (z : Pool). ran_with card z code) e ∙ f card h); fails = λ s z. n (ap code_of s ∙ z) }
+
+  pub runs_as : {other : Card → Ran} {r : Result ⊤ ℕ} → Runs other terms before after r
+      → ((card : Card) → HasTerms card terms.at terms → other (with_pool card before) ≡ ran (with_pool card before)) → Runs ran terms before after r
+  runs_as r f = record { each = λ card h. sym (f card h) ∙ r.each card h; fails = r.fails }
 
 module _ {card : Card} {terms : Terms} (h : HasTerms card terms.at terms) where
-  pub terms_lent : (pool : Pool) → AsLent (with_pool card pool) pool.owner pool.channel pool.charged terms.at terms.port.delegation
+  pub terms_lent : (pool : Pool) → AsLent (with_pool card pool) pool terms.at terms.port.delegation
   terms_lent pool = record { owner = refl; channel = refl; charged = refl; delegation = ap (λ (x : Port). x.delegation) (record_is h) }
 
   pub listed : (channels : List ℕ) (f : Flow) {found x : Option ℕ} → found ≡ channel_of channels terms.head.channel_count f → found ≡ x → channel_of channels card.head.channel_count f ≡ x
   listed channels f e t = ap (λ (n : ℕ). channel_of channels n f) (channels_are h) ∙ sym e ∙ t
+
+-- what admission asks for, of a pool that was left as it was
+pub lent_as : {card : Card} {pool same : Pool} {p amount : ℕ} → same ≡ pool → AsLent card pool p amount → AsLent card same p amount
+lent_as {card} {p = p} {amount} e l = subst (λ (q : Pool). AsLent card q p amount) (sym e) l
 
 -- ---- a failed command changes nothing
 module _ (channels : List ℕ) (card : Card) (p : ℕ) where

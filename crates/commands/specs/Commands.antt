@@ -1,10 +1,10 @@
 -- One command of a 144 on port p (CARD.md, "Multicast Replication Control (144)"): the card after it, and the result
 -- code, 0 for success. Assumes nothing: these are definitions.
-use Rattle.std.specs.Prelude.{ℕ, ◌≡◌, cond, List, eqb, Option, Some, None}
+use Rattle.std.specs.Prelude.{ℕ, ◌≡◌, cond, List, eqb, Option, Some, None, Result, Ok, Err, ⊤}
 use Rattle.flows.specs.declared.Flow.{Flow}
 use Rattle.channels.specs.Channels.{channel_of}
 use Rattle.pool.specs.declared.Pool.{Pool}
-use Rattle.pool.specs.Pool.{Whole, is_active, has_flow, began, ended_flow, ended_all, accounted}
+use Rattle.pool.specs.Pool.{is_active, has_flow, began, ended_flow, ended_all, accounted}
 use Rattle.card.specs.Cards.{Card, with_pool}
 use Rattle.card.specs.declared.Terms.{Terms}
 use Rattle.card.specs.Parts.{HasTerms}
@@ -53,13 +53,18 @@ carried_out channels card p delete_all = succeeds (with_pool card (ended_all car
 abbrev pub ran_of : List ℕ → Card → ℕ → List ℕ → Ran
 ran_of channels card p c = carried_out channels card p (directive_of c)
 
--- ---- the same on maps that are lent
+-- ---- the same on a pool that is lent
 
 abbrev pub ran_with : Card → Pool → ℕ → Ran
 ran_with card pool code = record { card = with_pool card pool; code = code }
 
--- a function that was lent the maps `before`, left them as `after` and gave the code: on every card with these terms and maps
--- that is what `ran` comes to
-pub record Runs (ran : Card → Ran) (terms : Terms) (before after : Pool) (code : ℕ) : Type 0 where
-  pub each : (card : Card) → HasTerms card terms.at terms → ran (with_pool card before) ≡ ran_with card after code
-  pub whole : Whole after
+-- the result code that an answer stands for: 0 for success
+unfoldable pub code_of : Result ⊤ ℕ → ℕ
+code_of (Ok done) = 0
+code_of (Err code) = code
+
+-- a function that was lent the pool `before`, left it as `after` and answered r: on every card with these terms and this pool
+-- that is what `ran` comes to; a command that fails has a result code, and not success's
+pub record Runs (ran : Card → Ran) (terms : Terms) (before after : Pool) (r : Result ⊤ ℕ) : Type 0 where
+  pub each : (card : Card) → HasTerms card terms.at terms → ran (with_pool card before) ≡ ran_with card after (code_of r)
+  pub fails : {code : ℕ} → r ≡ Err code → code ≡ 0 → ⊥

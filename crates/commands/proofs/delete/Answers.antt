@@ -1,33 +1,18 @@
-use mathlib.Core.Path.{sym, ap, ◌∙◌}
-use mathlib.Core.Bool.{Bool}
-use mathlib.Core.List.{List}
-use Prim.Native.Nat.{ℕ}
-use Rattle.channels.specs.Channels.{is_row}
-use Rattle.pool.specs.declared.Pool.{Pool}
-use Rattle.pool.specs.Pool.{pool_of, with_owner, free}
-use Rattle.pool.proofs.Whole.{whole_ended}
-use Rattle.pool.proofs.Lent.{ended_in_lem, swept_none}
+use mathlib.Core.Path.{sym, ◌∙◌}
+use native.Mathlib.Omega.{arith}
 use Rattle.card.specs.Cards.{with_pool}
 use Rattle.commands.proofs.Rows.{delete-active, delete_idle}
-use Rattle.commands.proofs.Runs.{runs_by}
-use borrow.Author.Rules.{rules}
+use Rattle.commands.proofs.Runs.{runs_ok, runs_err}
 use Rattle.commands.proofs.delete.Goals as goal
 
-pub returns-then-end_in : goal.returns-then-end_in
-returns-then-end_in c charged accounting w =
-    let maps : List Bool → List ℕ → Pool = (λ charged accounting. pool_of c.args.owner.now c.args.channel.now charged accounting) in
+pub returns-then-end : goal.returns-then-end
+returns-then-end c =
     let a = c.args in
-    let p : ℕ = a.terms.at in
-    let pool : Pool = maps charged accounting in
-    runs_by 0 (ap (with_owner pool) c.end_in.ensures.ends ∙ ended_in_lem pool p (is_row a.channels.now a.f)) (whole_ended pool w p (is_row a.channels.now a.f))
-    (λ card h. delete-active a.channels.now (with_pool card pool) p a.f (sym c.end_in.ensures.was ∙ c.if-end_in.true))
+    runs_ok c.end.ensures.ends
+    (λ card h. delete-active a.channels.now (with_pool card a.pool.now) a.terms.at a.f (sym c.end.ensures.was ∙ c.if-end.true))
 
 pub returns : goal.returns
-returns c charged accounting w =
-    let maps : List Bool → List ℕ → Pool = (λ charged accounting. pool_of c.args.owner.now c.args.channel.now charged accounting) in
+returns c =
     let a = c.args in
-    let p : ℕ = a.terms.at in
-    let pool : Pool = maps charged accounting in
-    let idle = sym c.end_in.ensures.was ∙ c.if-end_in.false in
-    runs_by 0x66 (ap (with_owner pool) (c.end_in.ensures.ends ∙ swept_none a.owner.now free a.owner.now a.channel.now p (is_row a.channels.now a.f) w.owner idle)) w
-    (λ card h. delete_idle a.channels.now (with_pool card pool) p a.f idle)
+    runs_err 0x66 (λ z. omega arith) (c.end.ensures.none c.if-end.false)
+    (λ card h. delete_idle a.channels.now (with_pool card a.pool.now) a.terms.at a.f (sym c.end.ensures.was ∙ c.if-end.false))

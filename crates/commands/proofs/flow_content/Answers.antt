@@ -3,7 +3,6 @@ use mathlib.Core.List.{List}
 use Prim.Native.Nat.{ℕ}
 use Rattle.items.specs.Items.{items_of, first_of}
 use Rattle.commands.specs.Directives.{flow_content}
-use borrow.Author.Rules.{rules}
 use Rattle.commands.proofs.flow_content.Goals as goal
 
 pub returns : goal.returns
