@@ -11,6 +11,7 @@ use lib.Dec.{eqb, leb, ltb}
 use native.Mathlib.Omega.{arith}
 use native.Mathlib.Numerals.{add-one}
 use borrow.Author.Tests.{eqb-true, eqb-false, eq-eqb, ne_eqb, leb-true, leb-false, ltb-true, ltb-false, le-ltb, lt-ltb}
+use Rattle.std.specs.Prelude.{Some, None}
 use Rattle.std.specs.declared.cmp.Ordering.{Ordering}
 use Rattle.std.specs.declared.cmp.Ordering.TheVariants.{Less, Equal, Greater}
 use Rattle.std.specs.Ordering.{is_lt, nat_cmp, ordering_then, MatchOrdering, ord_max}
@@ -18,15 +19,11 @@ use Rattle.std.specs.Cmp.{ranks}
 use Rattle.octets.proofs.Tests.{false_by}
 use Rattle.flows.specs.declared.Flow.{Flow}
 use Rattle.lists.specs.Lists.{entry_at, entry_matches, matching, group_length, source_length, longest, of_length, with_longest, most_specific, has, by_priority, decision}
-use Rattle.lists.specs.Ranks.{colour_of, strength, rank_of, is_above, highest}
+use Rattle.lists.specs.Ranks.{strength_of, rank_of, is_above, highest, decision_of}
 use Rattle.lists.specs.declared.Entry.{Entry}
 use Rattle.lists.specs.declared.Rank.{Rank}
-use Rattle.lists.specs.contracts.ColourOrd.TheImpl.{ghosts as colours}
-use Rattle.lists.specs.contracts.RankOrd.TheImpl.{ghosts as ranked}
-use Rattle.std.specs.Option.{option_cmp}
-use Rattle.lists.specs.declared.Colour.{Colour}
 use Rattle.lists.specs.declared.Colour.TheVariants.{Black, Grey, White}
-use Rattle.std.specs.Prelude.{Option, Some, None}
+use Rattle.lists.specs.contracts.RankOrd.TheImpl.{ghosts as ranked}
 
 -- ---- those with the longest prefix, with one entry more
 module _ (length : Entry → ℕ) where
@@ -62,45 +59,31 @@ module _ (length : Entry → ℕ) where
   alone e = let m : max (length e) 0 ≡ length e = omega arith in rw (m, eq-eqb (length e) (length e) refl) refl
 
 -- ---- strengths
-unfoldable strength_of : ℕ → ℕ
-strength_of list = strength (colour_of list)
-
--- what an entry of this strength decides
-unfoldable decision_of : ℕ → Option Colour
-decision_of s = cond (eqb s 3) (Some Black) (cond (eqb s 2) (Some Grey) (cond (eqb s 1) (Some White) None))
-
-decision_back : (d : Option Colour) → decision_of (strength d) ≡ d
-unfolding decision_of
-decision_back None = refl
-decision_back (Some White) = refl
-decision_back (Some Grey) = refl
-decision_back (Some Black) = refl
-
 -- the highest strength of some entries
 unfoldable strongest : List Entry → ℕ
 strongest [] = 0
 strongest (e ∷ es) = max (strength_of e.list) (strongest es)
 
 strength_lt : (l : ℕ) → strength_of l < 4
-unfolding strength_of colour_of
+unfolding strength_of
 strength_lt l = go (eqb l 2) (eqb l 3) (eqb l 1)
   where
-    go : (x y z : Bool) → strength (cond x (Some Black) (cond y (Some Grey) (cond z (Some White) None))) < 4
+    go : (x y z : Bool) → cond x 3 (cond y 2 (cond z 1 0)) < 4
     go true y z = omega arith
     go false true z = omega arith
     go false false true = omega arith
     go false false false = omega arith
 
 black : strength_of 2 ≡ 3
-unfolding strength_of colour_of
+unfolding strength_of
 black = refl
 
 grey : strength_of 3 ≡ 2
-unfolding strength_of colour_of
+unfolding strength_of
 grey = refl
 
 white : strength_of 1 ≡ 1
-unfolding strength_of colour_of
+unfolding strength_of
 white = refl
 
 -- the list of a strength
@@ -108,10 +91,10 @@ abbrev list_of : ℕ → ℕ
 list_of s = cond (eqb s 3) 2 (cond (eqb s 2) 3 1)
 
 list_of_lem : (l s : ℕ) → 0 < s → strength_of l ≡ s → l ≡ list_of s
-unfolding strength_of colour_of
+unfolding strength_of
 list_of_lem l s h e = go (eqb l 2) (eqb l 3) (eqb l 1) refl refl refl e
   where
-    go : (x y z : Bool) → eqb l 2 ≡ x → eqb l 3 ≡ y → eqb l 1 ≡ z → strength (cond x (Some Black) (cond y (Some Grey) (cond z (Some White) None))) ≡ s → l ≡ list_of s
+    go : (x y z : Bool) → eqb l 2 ≡ x → eqb l 3 ≡ y → eqb l 1 ≡ z → cond x 3 (cond y 2 (cond z 1 0)) ≡ s → l ≡ list_of s
     go true y z p q r e = eqb-true l 2 p ∙ ap list_of e
     go false true z p q r e = eqb-true l 3 q ∙ ap list_of e
     go false false true p q r e = eqb-true l 1 r ∙ ap list_of e
@@ -183,18 +166,18 @@ module _ (es : List Entry) where
 record Tops (es : List Entry) (r : Rank) : Type 0 where
   group : r.group_length ≡ longest group_length es
   source : r.source_length ≡ longest source_length (with_longest group_length es)
-  strongest_is : strength r.colour ≡ strongest (most_specific es)
+  strength : r.strength ≡ strongest (most_specific es)
 
 -- one entry more: those of the longest group prefix are then gs, and of these ms have the longest source prefix
 tops-by : (e : Entry) (es gs ms : List Entry) (x : Rank) → with_longest group_length (e ∷ es) ≡ gs → with_longest source_length gs ≡ ms
-    → x.group_length ≡ max (group_length e) (longest group_length es) → x.source_length ≡ longest source_length gs → strength x.colour ≡ strongest ms
+    → x.group_length ≡ max (group_length e) (longest group_length es) → x.source_length ≡ longest source_length gs → x.strength ≡ strongest ms
     → Tops (e ∷ es) x
 unfolding longest most_specific
 tops-by e es gs ms x eg em a b c =
     record {
       group = a;
       source = b ∙ ap (longest source_length) (sym eg);
-      strongest_is = c ∙ ap strongest (sym em ∙ ap (with_longest source_length) (sym eg));
+      strength = c ∙ ap strongest (sym em ∙ ap (with_longest source_length) (sym eg));
     }
 
 -- it is compared with the highest so far: by group, by source, by list
@@ -208,21 +191,21 @@ module _ (e : Entry) (es : List Entry) (r : Rank) (h : Tops es r) where
   abbrev higher : Bool → Rank
   higher b = cond b (rank_of e) r
 
-  by_strength : group_length e ≡ r.group_length → source_length e ≡ r.source_length → (b : Bool) → ltb (strength r.colour) (strength_of e.list) ≡ b
+  by_strength : group_length e ≡ r.group_length → source_length e ≡ r.source_length → (b : Bool) → ltb r.strength (strength_of e.list) ≡ b
       → Tops (e ∷ es) (higher b)
-  unfolding rank_of longest strongest strength_of most_specific
+  unfolding rank_of longest strongest most_specific
   by_strength p q true t =
-      let k = ltb-true (strength r.colour) (strength_of e.list) t in
+      let k = ltb-true r.strength (strength_of e.list) t in
       tops-by e es (e ∷ gs) (e ∷ ms) _ (cons_same group_length e es (p ∙ h.group)) (cons_same source_length e gs (q ∙ h.source))
-      (omega (arith, h.group)) (omega (arith, h.source)) (omega (arith, h.strongest_is))
+      (omega (arith, h.group)) (omega (arith, h.source)) (omega (arith, h.strength))
   by_strength p q false t =
-      let k = ltb-false (strength r.colour) (strength_of e.list) t in
+      let k = ltb-false r.strength (strength_of e.list) t in
       tops-by e es (e ∷ gs) (e ∷ ms) _ (cons_same group_length e es (p ∙ h.group)) (cons_same source_length e gs (q ∙ h.source))
-      (omega (arith, h.group)) (omega (arith, h.source)) (omega (arith, h.strongest_is))
+      (omega (arith, h.group)) (omega (arith, h.source)) (omega (arith, h.strength))
 
   by-source : group_length e ≡ r.group_length → (source_length e ≡ r.source_length → ⊥) → (b : Bool) → ltb r.source_length (source_length e) ≡ b
       → Tops (e ∷ es) (higher b)
-  unfolding rank_of longest strongest strength_of most_specific
+  unfolding rank_of longest strongest most_specific
   by-source p q true t =
       let k = ltb-true r.source_length (source_length e) t in
       tops-by e es (e ∷ gs) (e ∷ []) _ (cons_same group_length e es (p ∙ h.group)) (cons_above source_length e gs (omega (arith, h.source)))
@@ -230,10 +213,10 @@ module _ (e : Entry) (es : List Entry) (r : Rank) (h : Tops es r) where
   by-source p q false t =
       let k = ltb-false r.source_length (source_length e) t in
       tops-by e es (e ∷ gs) ms _ (cons_same group_length e es (p ∙ h.group)) (cons_below source_length e gs (omega (arith, h.source)))
-      (omega (arith, h.group)) (omega (arith, h.source)) h.strongest_is
+      (omega (arith, h.group)) (omega (arith, h.source)) h.strength
 
   by-group : (group_length e ≡ r.group_length → ⊥) → (b : Bool) → ltb r.group_length (group_length e) ≡ b → Tops (e ∷ es) (higher b)
-  unfolding rank_of longest strongest strength_of most_specific
+  unfolding rank_of longest strongest most_specific
   by-group p true t =
       let k = ltb-true r.group_length (group_length e) t in
       tops-by e es (e ∷ []) (e ∷ []) _ (cons_above group_length e es (omega (arith, h.group))) (alone source_length e)
@@ -241,27 +224,27 @@ module _ (e : Entry) (es : List Entry) (r : Rank) (h : Tops es r) where
   by-group p false t =
       let k = ltb-false r.group_length (group_length e) t in
       tops-by e es gs ms _ (cons_below group_length e es (omega (arith, h.group))) refl
-      (omega (arith, h.group)) h.source h.strongest_is
+      (omega (arith, h.group)) h.source h.strength
 
   one_more : Tops (e ∷ es) (cond (is_above (rank_of e) r) (rank_of e) r)
-  unfolding rank_of is_above strength_of
+  unfolding rank_of is_above
   one_more = go (eqb (group_length e) r.group_length) (eqb (source_length e) r.source_length) refl refl
     where
       go : (x y : Bool) → eqb (group_length e) r.group_length ≡ x → eqb (source_length e) r.source_length ≡ y
-          → Tops (e ∷ es) (higher (cond x (cond y (ltb (strength r.colour) (strength_of e.list)) (ltb r.source_length (source_length e))) (ltb r.group_length (group_length e))))
+          → Tops (e ∷ es) (higher (cond x (cond y (ltb r.strength (strength_of e.list)) (ltb r.source_length (source_length e))) (ltb r.group_length (group_length e))))
       go true true p q = by_strength (eqb-true _ _ p) (eqb-true _ _ q) _ refl
       go true false p q = by-source (eqb-true _ _ p) (eqb-false _ _ q) _ refl
       go false y p q = by-group (eqb-false _ _ p) _ refl
 
 tops : (es : List Entry) → Tops es (highest es)
 unfolding highest longest of_length with_longest most_specific strongest
-tops [] = record { group = refl; source = refl; strongest_is = refl }
+tops [] = record { group = refl; source = refl; strength = refl }
 tops (e ∷ es) = one_more e es (highest es) (tops es)
 
 -- THE LAW: the highest rank decides as the sentence says, for any entries
-pub decision_is : (es : List Entry) → (highest es).colour ≡ decision es
+pub decision_is : (es : List Entry) → decision_of (highest es).strength ≡ decision es
 unfolding decision
-decision_is es = sym (decision_back (highest es).colour) ∙ ap decision_of (tops es).strongest_is ∙ priority_is (most_specific es)
+decision_is es = ap decision_of (tops es).strength ∙ priority_is (most_specific es)
 
 -- ---- the order that is derived for ranks
 abbrev pub rank_cmp : Rank → Rank → Ordering
@@ -275,23 +258,13 @@ then_lt x y o = go (nat_cmp x y) (ranks x y)
     go Equal h = simp (eq-eqb y x (sym h))
     go Greater h = simp (ne_eqb y x (λ (e : y ≡ x). omega arith), le-ltb x y (omega arith))
 
-colour_lt : (a b : Option Colour) → is_lt (option_cmp colours.cmp a b) ≡ ltb (strength a) (strength b)
-colour_lt None None = refl
-colour_lt None (Some White) = refl
-colour_lt None (Some Grey) = refl
-colour_lt None (Some Black) = refl
-colour_lt (Some White) None = refl
-colour_lt (Some White) (Some White) = refl
-colour_lt (Some White) (Some Grey) = refl
-colour_lt (Some White) (Some Black) = refl
-colour_lt (Some Grey) None = refl
-colour_lt (Some Grey) (Some White) = refl
-colour_lt (Some Grey) (Some Grey) = refl
-colour_lt (Some Grey) (Some Black) = refl
-colour_lt (Some Black) None = refl
-colour_lt (Some Black) (Some White) = refl
-colour_lt (Some Black) (Some Grey) = refl
-colour_lt (Some Black) (Some Black) = refl
+cmp_lt : (x y : ℕ) → is_lt (nat_cmp x y) ≡ ltb x y
+cmp_lt x y = go (nat_cmp x y) (ranks x y)
+  where
+    go : (r : Ordering) → MatchOrdering r (x < y) (x ≡ y) (y < x) → is_lt r ≡ ltb x y
+    go Less h = sym (lt-ltb x y h)
+    go Equal h = sym (le-ltb x y (omega arith))
+    go Greater h = sym (le-ltb x y (omega arith))
 
 above_lt : (a b : Rank) → is_lt (rank_cmp b a) ≡ is_above a b
 unfolding is_above
@@ -299,7 +272,7 @@ above_lt a b =
     then_lt b.group_length a.group_length _
     ∙ ap (λ (t : Bool). cond (eqb a.group_length b.group_length) t (ltb b.group_length a.group_length))
     (then_lt b.source_length a.source_length _
-    ∙ ap (λ (t : Bool). cond (eqb a.source_length b.source_length) t (ltb b.source_length a.source_length)) (colour_lt b.colour a.colour))
+    ∙ ap (λ (t : Bool). cond (eqb a.source_length b.source_length) t (ltb b.source_length a.source_length)) (cmp_lt b.strength a.strength))
 
 -- ---- a loop that has passed the entries before i
 module _ (t : List ℕ) (f : Flow) (i : ℕ) (best : Rank) (inv : best ≡ highest (matching t f i)) where

@@ -11,12 +11,16 @@ pub fn at_most(n: usize, rows: usize) -> usize
     n.min(rows)
 }
 
-// The first row from `from` on that passes the test: others are passed over 8 at a time, then singly.
+// The first row from `from` on that passes the test. Where that row does not, others are passed over 8 at a time, then
+// singly.
 pub fn next_row<F: Fn(usize) -> bool>(passes: F, rows: usize, from: usize) -> Option<usize>
     requires within { from ≤ rows }
     requires callable { (i : ℕ) → i < rows → F.pre passes i }
     ensures { NextRow (λ i b. F.post passes i b) rows from result }
 {
+    if from < rows && passes(from) {
+        return Some(from);
+    }
     let mut i = from;
     while rows - i >= 8 && none_of(&passes, i, 8) {
         i += 8;

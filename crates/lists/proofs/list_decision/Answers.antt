@@ -1,9 +1,10 @@
+use Rattle.std.proofs.Common.{rules}
 use Prim.Native.Nat.{ℕ, min}
 use mathlib.Core.Path.{◌≡◌, refl, sym, ap, ◌∙◌}
 use native.Mathlib.Omega.{arith}
 use Rattle.lists.specs.Lists.{matching, list_decision}
 use Rattle.lists.specs.declared.Rank.{Rank}
-use Rattle.lists.specs.Ranks.{highest}
+use Rattle.lists.specs.Ranks.{highest, decision_of}
 use Rattle.lists.proofs.Laws.{laws}
 use Rattle.lists.proofs.Ranks.{decision_is, turn_other, turn_match}
 use Rattle.lists.proofs.list_decision.Goals.{then-row_matches, else-row_matches}
@@ -29,9 +30,10 @@ unfolding list_decision
 returns c =
     let h = c.loop-i in
     let a = c.args in
-    let e : h.i ≡ min a.n 128 = omega (arith, c.at_most-rows.ensures, c.loop-i-test.false) in
+    let most : c.min-rows.result ≡ min a.n 128 = search rules in
+    let e : h.i ≡ min a.n 128 = omega (arith, most, c.loop-i-test.false) in
     let t = a.entries.now in
     record {
-      value = ap (λ (r : Rank). r.colour) (h.invariant ∙ ap (λ (k : ℕ). highest (matching t a.f k)) e) ∙ decision_is (matching t a.f (min a.n 128));
+      value = c.decision_of.ensures ∙ ap (λ (r : Rank). decision_of r.strength) (h.invariant ∙ ap (λ (k : ℕ). highest (matching t a.f k)) e) ∙ decision_is (matching t a.f (min a.n 128));
       laws = laws;
     }

@@ -1,21 +1,21 @@
 use native.Mathlib.Omega.{arith}
 use mathlib.Core.Path.{refl}
 use borrow.Author.Tests.{ne_eqb}
-use Rattle.lists.specs.Ranks.{colour_of}
-use Rattle.lists.proofs.colour_of.Goals as goal
+use Rattle.lists.specs.Ranks.{strength_of}
+use Rattle.lists.proofs.strength_of.Goals as goal
 
 pub returns-in-2 : goal.returns-in-2
-unfolding colour_of
+unfolding strength_of
 returns-in-2 c = rw c.in-2.is refl
 
 pub returns-in-3 : goal.returns-in-3
-unfolding colour_of
+unfolding strength_of
 returns-in-3 c = rw c.in-3.is refl
 
 pub returns-in-1 : goal.returns-in-1
-unfolding colour_of
+unfolding strength_of
 returns-in-1 c = rw c.in-1.is refl
 
 pub returns-in_default : goal.returns-in_default
-unfolding colour_of
+unfolding strength_of
 returns-in_default c = simp (ne_eqb c.args.list 2 (λ e. omega arith), ne_eqb c.args.list 3 (λ e. omega arith), ne_eqb c.args.list 1 (λ e. omega arith))
