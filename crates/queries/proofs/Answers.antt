@@ -1,6 +1,6 @@
 -- Multicast-Flows that are written one directly after the other.
 --     flows_turn       one flow more
---     flows_most       each takes at most 40 octets
+--     flows_size, flows_most     each takes at most 40 octets
 --     body_size        so many are the octets of a Target and the flows after it
 -- Assumes nothing.
 use Prim.Native.Nat.{ℕ, ◌+◌, ◌*◌, ◌-◌, ◌≤◌, ◌<◌}
@@ -29,7 +29,7 @@ module _ (channels : List ℕ) where
   flows-append (x ∷ xs) ys =
       ap (λ (r : List ℕ). flow_tlv (channel_at channels x) ++ r) (flows-append xs ys) ∙ sym (append_assoc (flow_tlv (channel_at channels x)) (flow_tlvs channels xs) (flow_tlvs channels ys))
 
-  flows_size : (xs : List ℕ) → length (flow_tlvs channels xs) ≤ 40 * length xs
+  pub flows_size : (xs : List ℕ) → length (flow_tlvs channels xs) ≤ 40 * length xs
   unfolding flow_tlvs
   flows_size [] = omega arith
   flows_size (x ∷ xs) =
@@ -62,5 +62,5 @@ module _ (channels : List ℕ) where
       }
 
 -- the Target and the flows after it
-pub body_size : (id channels ks : List ℕ) (i : ℕ) → length (target_of id ++ flow_tlvs channels (take i ks)) ≤ 8 + padded (length id) + 40 * i
-body_size id channels ks i = omega (arith, length-target id, flows_most channels ks i, length-append (target_of id) (flow_tlvs channels (take i ks)))
+pub body_size : (id channels ks : List ℕ) → length (target_of id ++ flow_tlvs channels ks) ≤ 8 + padded (length id) + 40 * length ks
+body_size id channels ks = omega (arith, length-target id, flows_size channels ks, length-append (target_of id) (flow_tlvs channels ks))

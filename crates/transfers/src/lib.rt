@@ -2,7 +2,6 @@
 
 // A Bandwidth Reallocation Request (146) and a Bandwidth Transfer (147) about the port of the terms, which passed the table.
 ghost use Rattle.std.specs.Prelude.{◌≡◌, List, ℕ, ◌≤◌, ◌<◌, min, max, length};
-ghost use Rattle.pool.specs.Pool.{pool_of};
 ghost use Rattle.card.specs.Parts.{ComesTo};
 ghost use Rattle.transfers.specs.Transfers.{transfer_fails, transfer_gives, reallocated, transferred};
 
@@ -12,11 +11,8 @@ use header::Header;
 use pool::Pool;
 use ports::Change;
 
-// Whatever the accounting map holds.
-pub fn reallocate<'a>(
-    owner: &'a [u8; 512],
-    channel: &'a [u8; 512],
-    charged: &'a [bool; 512],
+pub fn reallocate(
+    pool: &Pool,
     ids: &[u8; 4096],
     channels: &[u32; 2816],
     terms: Terms,
@@ -25,35 +21,25 @@ pub fn reallocate<'a>(
     reply: &mut [u8],
 ) -> Effect
     requires { (4608 ≤ length reply.old) × (terms.at < 64) }
-    ensures { (accounting : List ℕ) → ComesTo (λ card. reallocated ids.now channels.now card h terms.at r) terms.at terms (pool_of owner.now channel.now charged.now accounting) (pool_of owner.now channel.now charged.now accounting) result reply.old reply.new }
+    ensures { ComesTo (λ card. reallocated ids.now channels.now card h terms.at r) terms.at terms pool.now pool.now result reply.old reply.new }
 {
     if r.required < r.preferred {
         return fail(ids, terms, h, 0x67, reply);
     }
-    let committed = pool::committed_of(channels, owner, channel, charged, terms.at as u8);
+    let p = terms.at as u8;
+    let committed = pool::committed_of(channels, &pool.owner, &pool.channel, &pool.charged, p);
     if (r.required as u64) < committed {
         return fail(ids, terms, h, 0, reply);
     }
-    let x = terms.port;
-    give(
-        ids,
-        terms,
-        h,
-        reduced(committed as u32, r.preferred, x.delegation),
-        reply,
-    )
+    let amount = reduced(committed as u32, r.preferred, terms.port.delegation);
+    give(ids, terms, h, amount, reply)
 }
 
 // The larger of committed and the smaller of preferred and the present delegation.
 fn reduced(committed: u32, preferred: u32, present: u32) -> u32
     ensures { result ≡ max committed (min preferred present) }
 {
-    let least = if preferred < present {
-        preferred
-    } else {
-        present
-    };
-    if least < committed { committed } else { least }
+    committed.max(preferred.min(present))
 }
 
 // The answer is a Failure with the present delegation, which is kept.
@@ -61,7 +47,6 @@ fn fail(ids: &[u8; 4096], terms: Terms, h: Header, code: u16, reply: &mut [u8]) 
     requires { (4608 ≤ length reply.old) × (terms.at < 64) }
     ensures { (pool : Pool) → ComesTo (λ card. transfer_fails ids.now card h terms.at code) terms.at terms pool pool result reply.old reply.new }
 {
-    let x = terms.port;
     let n = replies::put_amount(
         reply,
         h,
@@ -69,7 +54,7 @@ fn fail(ids: &[u8; 4096], terms: Terms, h: Header, code: u16, reply: &mut [u8]) 
         4,
         code,
         circuits::id_at(ids, terms.at as u8),
-        x.delegation,
+        terms.port.delegation,
     );
     card::changed(terms, Change::Kept, n)
 }
@@ -95,14 +80,13 @@ fn give(ids: &[u8; 4096], terms: Terms, h: Header, amount: u32, reply: &mut [u8]
 pub fn transfer(terms: Terms, h: Header, amount: u32) -> Effect
     ensures { (pool : Pool) (text : List ℕ) → ComesTo (λ card. transferred card h terms.at amount) terms.at terms pool pool result text text }
 {
-    let x = terms.port;
-    if !x.answers(h.transaction) {
+    if !terms.port.answers(h.transaction) {
         return card::unchanged(terms, 16);
     }
     if h.result == 4 {
         return card::changed(terms, Change::Closed, 0);
     }
-    if !x.within(amount) {
+    if !terms.port.within(amount) {
         return card::unchanged(terms, 16);
     }
     card::changed(terms, Change::Delegated(amount), 0)

@@ -4,7 +4,7 @@ use lib.ListN.{length-drop, length-append}
 use Rattle.octets.proofs.Parts.{rest_part}
 use Rattle.octets.proofs.Writing.{lent-after}
 use Rattle.writers.proofs.Tlvs.{length-target}
-use Rattle.queries.proofs.Answers.{flows_most}
+use Rattle.queries.proofs.Answers.{flows_size}
 use borrow.Author.Rules.{rules}
 use Rattle.queries.proofs.put_target_flows.Goals as goal
 
@@ -18,7 +18,7 @@ pub put_flows-n-requires : goal.put_flows-n-requires
 put_flows-n-requires c = (simp (rest_part, length-drop) (omega (arith, length-target c.args.id.now, c.put_target-at.ensures.size, c.requires, c.put_target-at.auto)), search rules)
 
 pub overflow_add-result : goal.overflow_add-result
-overflow_add-result c = omega (arith, length-target c.args.id.now, c.put_target-at.ensures.size, c.requires, c.put_flows-n.ensures.size, flows_most c.args.channels.now c.args.rows.rows c.args.rows.count)
+overflow_add-result c = omega (arith, length-target c.args.id.now, c.put_target-at.ensures.size, c.requires, c.put_flows-n.ensures.size, flows_size c.args.channels.now c.args.ks.now)
 
 pub returns : goal.returns
 returns c = record {
