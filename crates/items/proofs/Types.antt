@@ -1,10 +1,10 @@
 -- The TLVs of one type among those of a list. Assumes nothing.
-use mathlib.Core.Path.{◌≡◌, refl}
+use mathlib.Core.Path.{◌≡◌, refl, ap}
+use Rattle.std.specs.Prelude.{filter, find, Option, None, Some}
 use mathlib.Core.List.{List, [], ◌∷◌}
 use mathlib.Core.Bool.{Bool, true, false, cond}
-use Prim.Native.Nat.{ℕ, ◌+◌, ◌≤◌}
+use Prim.Native.Nat.{ℕ, suc, ◌≤◌}
 use native.Mathlib.Omega.{arith}
-use native.Mathlib.Numerals.{add-one}
 use lib.ListN.{length, get_or}
 use lib.Dec.{eqb}
 use borrow.Author.Tests.{eq-eqb, ne_eqb}
@@ -19,10 +19,6 @@ module _ {t : ℕ} (i : Item) (is : List Item) where
   pub of_miss : (i.kind ≡ t → ⊥) → of_type t (i ∷ is) ≡ of_type t is
   unfolding of_type
   of_miss h = rw (ne_eqb i.kind t h)
-
-  pub count_hit : i.kind ≡ t → count_of t (i ∷ is) ≡ count_of t is + 1
-  unfolding count_of
-  count_hit h = rw (of_hit h, add-one)
 
   pub count_miss : (i.kind ≡ t → ⊥) → count_of t (i ∷ is) ≡ count_of t is
   unfolding count_of
@@ -82,3 +78,29 @@ head-fits n (i ∷ is) h = omega (arith, h.0)
 
 pub first_fits : (n t : ℕ) (is : List Item) → Fit n is → length (first_of t is) ≤ n
 first_fits n t is h = rw first_from_lem (head-fits n (from_type t is) (from_fits n t is h))
+
+-- ---- in the library's words
+abbrev pub content_of : Option Item → List ℕ
+content_of None = []
+content_of (Some i) = i.content
+
+module _ (t : ℕ) where
+  count-by : (b : Bool) (i : Item) (is : List Item) → length (filter (λ j. eqb j.kind t) is) ≡ length (of_type t is)
+      → length (cond b (i ∷ filter (λ j. eqb j.kind t) is) (filter (λ j. eqb j.kind t) is)) ≡ length (cond b (i.content ∷ of_type t is) (of_type t is))
+  count-by true i is h = ap suc h
+  count-by false i is h = h
+
+  pub counted : (is : List Item) → length (filter (λ i. eqb i.kind t) is) ≡ count_of t is
+  unfolding count_of of_type
+  counted [] = refl
+  counted (i ∷ is) = count-by (eqb i.kind t) i is (counted is)
+
+  found-by : (b : Bool) (i : Item) (is : List Item) → content_of (find (λ j. eqb j.kind t) is) ≡ get_or (of_type t is) 0 []
+      → content_of (cond b (Some i) (find (λ j. eqb j.kind t) is)) ≡ get_or (cond b (i.content ∷ of_type t is) (of_type t is)) 0 []
+  found-by true i is h = refl
+  found-by false i is h = h
+
+  pub found : (is : List Item) → content_of (find (λ i. eqb i.kind t) is) ≡ first_of t is
+  unfolding first_of of_type
+  found [] = refl
+  found (i ∷ is) = found-by (eqb i.kind t) i is (found is)

@@ -3,91 +3,98 @@
 // Walks over the TLVs of a list, each of which hands out parts of the message.
 ghost use Rattle.std.specs.Prelude.{◌≡◌};
 ghost use Rattle.items.specs.Items.{items_of, count_of, first_of, from_type};
+ghost use Rattle.items.specs.Walk.{item_at, items_left};
+ghost use Rattle.std.specs.Iterator.{YieldsFirstBy, item_count};
 ghost use Rattle.items.specs.Place.{tlv_at, place_after, content_at};
 
 use tlv::First;
+
+// A TLV of a list: its type, and its content.
+#[derive(Clone, Copy)]
+pub struct Tlv<'a> {
+    pub kind: u16,
+    pub content: &'a [u8],
+}
+
+// The TLVs of a list in order, as far as no length is broken.
+#[derive(Clone, Copy)]
+pub struct Tlvs<'a> {
+    rest: &'a [u8],
+}
+
+impl<'a> Tlvs<'a> {
+    pub fn of(list: &'a [u8]) -> Self
+        ensures { items_left result ≡ items_of list.now }
+    {
+        Tlvs { rest: list }
+    }
+}
+
+impl<'a> Iterator for Tlvs<'a> {
+    type Item = Tlv<'a>;
+
+    ghost next_gives = { YieldsFirstBy item_at items_left };
+
+    ghost remaining = { item_count items_left };
+
+    fn next(&mut self) -> Option<Tlv<'a>> {
+        match tlv::first_tlv(self.rest) {
+            First::End | First::Broken => None,
+            First::Tlv { kind, len, size } => {
+                let content = &self.rest[4..4 + len];
+                self.rest = &self.rest[size..];
+                Some(Tlv { kind, content })
+            }
+        }
+    }
+}
 
 // How many TLVs of a type there are.
 pub fn count_of(s: &[u8], kind: u16) -> usize
     ensures { result ≡ count_of kind (items_of s.now) }
 {
-    let mut n: usize = 0;
-    let mut t = s;
-    loop {
-        let next = tlv::first_tlv(t);
-        match next {
-            First::End => return n,
-            First::Broken => return n,
-            First::Tlv {
-                kind: k,
-                len: _,
-                size,
-            } => {
-                if k == kind {
-                    n += 1;
-                }
-                t = &t[size..];
-            }
-        }
-    }
+    Tlvs::of(s).filter(|t| t.kind == kind).count()
 }
 
 // The part from the first TLV of a type on: where a list of that type is walked, its next TLV stands first there.
-pub fn from_type<'a>(s: &'a [u8], kind: u16) -> &'a [u8]
+pub fn from_type(s: &[u8], kind: u16) -> &[u8]
     ensures { items_of result.now ≡ from_type kind (items_of s.now) }
 {
     let mut t = s;
     loop {
-        let next = tlv::first_tlv(t);
-        match next {
-            First::End => return t,
-            First::Broken => return t,
-            First::Tlv {
-                kind: k,
-                len: _,
-                size,
-            } => {
-                if k == kind {
-                    return t;
-                }
-                t = &t[size..];
-            }
+        match tlv::first_tlv(t) {
+            First::End | First::Broken => return t,
+            First::Tlv { kind: k, .. } if k == kind => return t,
+            First::Tlv { size, .. } => t = &t[size..],
         }
     }
 }
 
 // The content of the first TLV of a type; empty where there is none.
-pub fn first_of<'a>(s: &'a [u8], kind: u16) -> &'a [u8]
+pub fn first_of(s: &[u8], kind: u16) -> &[u8]
     ensures { result.now ≡ first_of kind (items_of s.now) }
 {
-    content_at(from_type(s, kind), 0)
+    match Tlvs::of(s).find(|t| t.kind == kind) {
+        Some(t) => t.content,
+        None => &[],
+    }
 }
 
 // What stands at a place of a message, the content of a TLV there, and the place after it.
 pub fn tlv_at(s: &[u8], at: usize) -> First
     ensures { result ≡ tlv_at s.now at }
 {
-    if s.len() < at {
-        return First::End;
-    }
-    tlv::first_tlv(&s[at..])
+    tlv::first_tlv(s.get(at..).unwrap_or(&[]))
 }
 
-pub fn content_at<'a>(s: &'a [u8], at: usize) -> &'a [u8]
+pub fn content_at(s: &[u8], at: usize) -> &[u8]
     ensures { result.now ≡ content_at s.now at }
 {
-    let here = tlv_at(s, at);
-    match here {
-        First::End => &s[0..0],
-        First::Broken => &s[0..0],
-        First::Tlv {
-            kind: _,
-            len,
-            size: _,
-        } => {
+    match tlv_at(s, at) {
+        First::End | First::Broken => &[],
+        First::Tlv { len, .. } => {
             let b = at + 4;
-            let e = b + len;
-            &s[b..e]
+            &s[b..b + len]
         }
     }
 }
@@ -95,14 +102,8 @@ pub fn content_at<'a>(s: &'a [u8], at: usize) -> &'a [u8]
 pub fn place_after(s: &[u8], at: usize) -> usize
     ensures { result ≡ place_after s.now at }
 {
-    let here = tlv_at(s, at);
-    match here {
-        First::End => at,
-        First::Broken => at,
-        First::Tlv {
-            kind: _,
-            len: _,
-            size,
-        } => at + size,
+    match tlv_at(s, at) {
+        First::End | First::Broken => at,
+        First::Tlv { size, .. } => at + size,
     }
 }
