@@ -1,6 +1,5 @@
 -- Comparing octets from the end, and what is found among the circuit ids.
 --     back_on, back-off    one turn of the comparison: the octets before the last that was compared are left
---     same_none            a list is the same as the empty one if it is empty
 --     port_found           the port that is found is one of the n, has the id, and is the first that does
 --     port_none            where none is found no port has the id
 --     id_short, id-length  a circuit id has at most 63 octets, and as many as its row says
@@ -9,17 +8,17 @@
 -- Assumes nothing.
 use Rattle.std.specs.Prelude.{Option, Some, None}
 use Prim.Native.Nat.{ℕ, suc, ◌+◌, ◌-◌, ◌*◌, ◌%◌, ◌≤◌, ◌<◌, min}
-use mathlib.Core.Path.{◌≡◌, refl, sym, ap, ap₂, ◌∙◌}
+use mathlib.Core.Path.{◌≡◌, sym, ap, ap₂, ◌∙◌}
 use mathlib.Core.Bool.{Bool, false, ◌&&◌, and-true, and-false, false≢true}
 use mathlib.Core.List.{List, [], ◌∷◌}
 use lib.ListN.{length, take, drop, get_or, length-take, length-drop}
 use lib.Seq.{take-suc, length-take-le, get_or-take, get_or-drop}
-use lib.Dec.{eqb, ltb}
+use lib.Dec.{eqb}
 use native.Mathlib.Omega.{arith}
-use borrow.Author.Tests.{eq-eqb, ne_eqb, le-ltb}
+use borrow.Author.Tests.{eq-eqb, eqb-false, ne_eqb}
 use Rattle.flows.specs.Words.{same}
 use Rattle.flows.proofs.Same.{same-append, same_eq, same_refl, same-off}
-use Rattle.rows.specs.Rows.{first_from, NextWith}
+use Rattle.rows.specs.Rows.{first_from}
 use Rattle.rows.proofs.Rows.{found_at, found_none}
 use Rattle.rows.proofs.Nexts.{first-over}
 use Rattle.circuits.specs.Circuits.{id_length, id_at, id_octet, has_id, port_of}
@@ -40,12 +39,6 @@ module _ (a b : List ℕ) (i : ℕ) (ha : i < length a) (hb : i < length b) wher
 
   pub back-off : (get_or a i 0 ≡ get_or b i 0 → ⊥) → same (take (suc i) a) (take (suc i) b) ≡ false
   back-off e = last ∙ simp (ne_eqb (get_or a i 0) (get_or b i 0) e, and-false)
-
-pub same_none : (a b : List ℕ) → length b < 1 → ltb (length a) 1 ≡ same a b
-unfolding same
-same_none [] [] h = refl
-same_none (x ∷ a) [] h = le-ltb (length (x ∷ a)) 1 (omega arith)
-same_none a (y ∷ b) h = absurd (omega arith)
 
 pub id_short : (ids : List ℕ) (p : ℕ) → length (id_at ids p) < 64
 unfolding id_at
@@ -98,6 +91,7 @@ module _ (ids id : List ℕ) (k : ℕ) (h : 0 < k) (l : k ≤ length id) where
   pub other_id : (p : ℕ) → (id_octet ids k p ≡ get_or id (k - 1) 0 → ⊥) → has_id ids id p ≡ false
   other_id p n = same-off (id_at ids p) id (λ e. n (octet_there p e))
 
-  pub id_skip : (i n : ℕ) {j : ℕ} {r : Option ℕ} → r ≡ first_from i (n - i) (has_id ids id)
-      → NextWith (id_octet ids k) (get_or id (k - 1) 0) n i j → r ≡ first_from j (n - j) (has_id ids id)
-  id_skip i n {j} inv x = first-over (has_id ids id) i n j inv x.reached x.most (λ m a b. other_id m (x.others m a b))
+  pub id_skip : (i n j : ℕ) {r : Option ℕ} → r ≡ first_from i (n - i) (has_id ids id)
+      → i ≤ j → j ≤ n → ((p : ℕ) → i ≤ p → p < j → eqb (id_octet ids k p) (get_or id (k - 1) 0) ≡ false)
+      → r ≡ first_from j (n - j) (has_id ids id)
+  id_skip i n j inv l u x = first-over (has_id ids id) i n j inv l u (λ p a b. other_id p (eqb-false _ _ (x p a b)))
