@@ -1,15 +1,8 @@
 #![tactic(auto)]
 
-// Rows of a table: how many there are, and which is the first of its kind.
-ghost use Rattle.std.specs.Prelude.{◌≡◌, ◌≤◌, ◌<◌, ◌+◌, ◌^◌, ℕ, true, false, min};
+// Rows of a table: which is the first of its kind.
+ghost use Rattle.std.specs.Prelude.{◌≡◌, ◌≤◌, ◌<◌, ◌+◌, ◌^◌, ℕ, true, false};
 ghost use Rattle.rows.specs.Rows.{NextRow};
-
-// A table has so many rows and no more, whatever count is given with it.
-pub fn at_most(n: usize, rows: usize) -> usize
-    ensures { result ≡ min n rows }
-{
-    n.min(rows)
-}
 
 // The first row from `from` on that passes the test. Where that row does not, others are passed over 8 at a time, then
 // singly.
