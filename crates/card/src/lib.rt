@@ -116,6 +116,7 @@ pub fn start(
 }
 
 // The number of a start, whatever its switches: 0, or 14.
+#[tactic(auto, unfolding(crate::specs::Start::start_of, octets::specs::Tests::every))]
 pub fn start_number(
     ids: &[u8; 4096],
     port_count: usize,
@@ -127,20 +128,15 @@ pub fn start_number(
 ) -> u8
     ensures { (white add : Bool) → result ≡ (start_of ids.now port_count channels.now channel_count entries.now entry_count white add first).number }
 {
-    if !tables::tables_ok(
+    let ok = tables::tables_ok(
         ids,
         port_count,
         channels,
         channel_count,
         entries,
         entry_count,
-    ) {
-        return 14;
-    }
-    if !first_ok(first) {
-        return 14;
-    }
-    0
+    );
+    if ok && first_ok(first) { 0 } else { 14 }
 }
 
 fn fresh_core(
@@ -167,23 +163,19 @@ fn fresh_core(
     }
 }
 
+#[tactic(auto, unfolding(crate::specs::Start::first_ok, octets::specs::Tests::every))]
 pub fn first_ok(first: u32) -> bool
     ensures { result ≡ first_ok first }
 {
-    if first < 1 {
-        return false;
-    }
-    first <= 16777215
+    1 <= first && first <= 16777215
 }
 
+#[tactic(auto, unfolding(crate::specs::Cards::is_port, octets::specs::Tests::every))]
 pub fn is_port(count: usize, p: usize) -> bool
     ensures test { result ≡ is_port count p }
     ensures inside { result ≡ true → p < 64 }
 {
-    if 64 <= p {
-        return false;
-    }
-    p < count
+    p < 64 && p < count
 }
 
 // ---- the parts of a card
