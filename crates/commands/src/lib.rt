@@ -107,7 +107,7 @@ fn add_channel(
     if pool.account(p, k, value) {
         return Ok(());
     }
-    if joins::admit_number(pool, channels, terms.port.delegation, cac, p, k) != 0 {
+    if joins::admit(pool, channels, terms.port.delegation, cac, p, k).is_err() {
         return Err(0x13);
     }
     pool.begin(p, k, cac, value);

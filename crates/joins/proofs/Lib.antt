@@ -2,3 +2,4 @@ pub mod Cases
 pub mod Lent
 pub mod Parts
 pub mod Written
+pub mod Refusals

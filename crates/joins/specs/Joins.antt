@@ -1,6 +1,6 @@
 -- Join, check by check in CARD.md's order: 13, 7, 6, 8, 9, 1, then lists (3 or 2), 5, 4. Assumes nothing: these are
 -- definitions.
-use Rattle.std.specs.Prelude.{ℕ, ◌+◌, ◌≡◌, Bool, cond, List, eqb, leb, ltb, Option, Some, None}
+use Rattle.std.specs.Prelude.{ℕ, ◌+◌, ◌≡◌, Bool, cond, List, eqb, leb, ltb, Option, Some, None, Result, Ok, Err, ⊤}
 use Rattle.flows.specs.declared.Flow.{Flow}
 use Rattle.flows.specs.Flows.{good_flow}
 use Rattle.channels.specs.Channels.{channel_of, rate_at}
@@ -14,6 +14,8 @@ use Rattle.pool.specs.Pool.{is_active, committed_of, has_room, began}
 use Rattle.card.specs.Cards.{Card, has_port, port_at, with_pool, with_counter}
 use Rattle.card.specs.Outcome.{Outcome, keeps, becomes}
 use Rattle.begun.specs.Begun.{admission_of}
+use Rattle.joins.specs.declared.Refusal.{Refusal}
+use Rattle.joins.specs.declared.Refusal.TheVariants.{NoRoom, OverDelegation}
 
 -- the rate of channel k fits: with what is committed it does not pass the delegation
 unfoldable pub fits : List ℕ → Card → ℕ → ℕ → Bool
@@ -22,6 +24,15 @@ fits channels card p k = leb (committed_of channels card.pool p + rate_at channe
 -- room, and then, under admission control, the rate: 5, 4, or 0
 unfoldable pub admit_number : List ℕ → Card → Bool → ℕ → ℕ → ℕ
 admit_number channels card cac p k = cond (has_room card.pool p) (cond cac (cond (fits channels card p k) 0 4) 0) 5
+
+-- what a refusal is in numbers, and what admission answers: 0 where it admits
+unfoldable pub refused_number : Refusal → ℕ
+refused_number NoRoom = 5
+refused_number OverDelegation = 4
+
+unfoldable pub number_of : Result ⊤ Refusal → ℕ
+number_of (Ok done) = 0
+number_of (Err refusal) = refused_number refusal
 
 -- the card's pool has this one's owners, channels and charges, and port p this delegation: what admission asks for
 pub record AsLent (card : Card) (pool : Pool) (p amount : ℕ) : Type 0 where

@@ -4,7 +4,7 @@
 ghost use Rattle.std.specs.Prelude.{◌≡◌, List, ℕ, ◌≤◌, ◌<◌, length, Some};
 ghost use Rattle.card.specs.Cards.{Card};
 ghost use Rattle.card.specs.Parts.{ComesTo};
-ghost use Rattle.joins.specs.Joins.{fits, admit_number, AsLent, white_of, grey_of, join_row, join_of};
+ghost use Rattle.joins.specs.Joins.{fits, admit_number, refused_number, number_of, AsLent, white_of, grey_of, join_row, join_of};
 ghost use Rattle.joins.specs.Asks.{asked_of, ask_of};
 
 use card::{CardHead, Effect, Terms, unchanged};
@@ -12,6 +12,26 @@ use flows::Flow;
 use lists::Colour;
 use pool::Pool;
 use ports::Change;
+
+// Why a flow is not admitted: its port or the pool is full, or its rate passes the port's delegation.
+#[derive(Clone, Copy)]
+pub enum Refusal {
+    NoRoom,
+    OverDelegation,
+}
+
+impl Refusal {
+    // The number of a join that is so refused.
+    #[tactic(auto, unfolding(crate::specs::Joins::refused_number))]
+    pub fn number(self) -> u8
+        ensures { result ≡ refused_number self }
+    {
+        match self {
+            Refusal::NoRoom => 5,
+            Refusal::OverDelegation => 4,
+        }
+    }
+}
 
 // On the parts of a card that it reads and writes: the pool becomes that of the card afterwards.
 pub fn join_in(
@@ -78,35 +98,33 @@ fn join_white(pool: &mut Pool, channels: &[u32; 2816], terms: Terms, p: u8, k: u
     ensures { (text : List ℕ) → ComesTo (λ card. white_of channels.now card p k) p terms pool.old pool.new result text text }
 {
     let cac = terms.head.white_cac;
-    let number = admit_number(pool, channels, terms.port.delegation, cac, p, k);
-    if number != 0 {
-        return unchanged(terms, number);
+    match admit(pool, channels, terms.port.delegation, cac, p, k) {
+        Err(refusal) => unchanged(terms, refusal.number()),
+        Ok(()) => {
+            pool.begin(p, k, cac, 0);
+            unchanged(terms, 0)
+        }
     }
-    pool.begin(p, k, cac, 0);
-    unchanged(terms, 0)
 }
 
-// Room, and then, under admission control, the rate: 5, 4, or 0.
-pub fn admit_number(
+// Room, and then, under admission control, the rate.
+pub fn admit(
     pool: &Pool,
     channels: &[u32; 2816],
     delegation: u32,
     cac: bool,
     p: u8,
     k: u8,
-) -> u8
-    ensures { (card : Card) → AsLent card pool.now p delegation → result ≡ admit_number channels.now card cac p k }
+) -> Result<(), Refusal>
+    ensures { (card : Card) → AsLent card pool.now p delegation → number_of result ≡ admit_number channels.now card cac p k }
 {
     if !pool::has_room(&pool.owner, p) {
-        return 5;
+        return Err(Refusal::NoRoom);
     }
-    if !cac {
-        return 0;
+    if cac && !rate_fits(pool, channels, delegation, p, k) {
+        return Err(Refusal::OverDelegation);
     }
-    if rate_fits(pool, channels, delegation, p, k) {
-        return 0;
-    }
-    4
+    Ok(())
 }
 
 // No sum is made, so that none can pass its type.
