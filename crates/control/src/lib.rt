@@ -4,7 +4,6 @@
 ghost use Rattle.std.specs.Prelude.{◌≡◌, ◌++◌, ◌≤◌, ◌<◌, length};
 ghost use Rattle.octets.specs.Writing.{Wrote};
 ghost use Rattle.writers.specs.Tlvs.{tlv_of, target_of, sequence_of};
-ghost use Rattle.pool.specs.Pool.{pool_of, Whole};
 ghost use Rattle.card.specs.Outcome.{Ends};
 ghost use Rattle.card.specs.Parts.{ComesTo};
 ghost use Rattle.card.specs.Cards.{Card};
@@ -13,15 +12,13 @@ ghost use Rattle.control.specs.Control.{failure_of, all_good, commands_from, com
 use card::{Effect, Terms};
 use fields::COMMAND;
 use header::Header;
+use pool::Pool;
 use ports::Change;
 use tlv::First;
 
-// The maps become those of the card afterwards; no port's record changes.
+// The pool becomes that of the card afterwards; no port's record changes.
 pub fn control(
-    owner: &mut [u8; 512],
-    channel: &mut [u8; 512],
-    charged: &mut [bool; 512],
-    accounting: &mut [u8; 512],
+    pool: &mut Pool,
     ids: &[u8; 4096],
     channels: &[u32; 2816],
     terms: Terms,
@@ -29,64 +26,43 @@ pub fn control(
     tlvs: &[u8],
     reply: &mut [u8],
 ) -> Effect
-    requires { (4608 ≤ length reply.old) × (terms.at < 64) × (length tlvs.now ≤ 4096) × Whole (pool_of owner.old channel.old charged.old accounting.old) }
-    ensures { ComesTo (λ card. controlled ids.now channels.now card h terms.at tlvs.now) terms.at terms (pool_of owner.old channel.old charged.old accounting.old) (pool_of owner.new channel.new charged.new accounting.new) result reply.old reply.new }
+    requires { (4608 ≤ length reply.old) × (terms.at < 64) × (length tlvs.now ≤ 4096) }
+    ensures { ComesTo (λ card. controlled ids.now channels.now card h terms.at tlvs.now) terms.at terms pool.old pool.new result reply.old reply.new }
 {
-    let p = terms.at as u8;
-    let n = run_all(
-        channels,
-        terms,
-        h,
-        circuits::id_at(ids, p),
-        tlvs,
-        owner,
-        channel,
-        charged,
-        accounting,
-        reply,
-    );
+    let id = circuits::id_at(ids, terms.at as u8);
+    let n = run_all(pool, channels, terms, h, id, tlvs, reply);
     card::changed(terms, Change::Kept, n)
 }
 
-// All commands in order, on the maps of the pool; the answer is how many octets of reply are written.
+// All commands in order, on the pool; the answer is how many octets of reply are written.
 fn run_all(
+    pool: &mut Pool,
     channels: &[u32; 2816],
     terms: Terms,
     h: Header,
     id: &[u8],
     tlvs: &[u8],
-    owner: &mut [u8; 512],
-    channel: &mut [u8; 512],
-    charged: &mut [bool; 512],
-    accounting: &mut [u8; 512],
     reply: &mut [u8],
 ) -> usize
-    requires { (4608 ≤ length reply.old) × (length id.now < 64) × (length tlvs.now ≤ 4096) × (terms.at < 256) × Whole (pool_of owner.old channel.old charged.old accounting.old) }
-    ensures { Controls (λ card. commands_from channels.now h id.now terms.at card 1 (commands_in tlvs.now)) terms (pool_of owner.old channel.old charged.old accounting.old) (pool_of owner.new channel.new charged.new accounting.new) result reply.old reply.new }
+    requires { (4608 ≤ length reply.old) × (length id.now < 64) × (length tlvs.now ≤ 4096) × (terms.at < 256) }
+    ensures { Controls (λ card. commands_from channels.now h id.now terms.at card 1 (commands_in tlvs.now)) terms pool.old pool.new result reply.old reply.new }
 {
     let mut seq: u32 = 1;
     let mut at: usize = 0;
     loop {
         let step = reader::step_at(tlvs, at);
-        let next = step.first;
-        match next {
-            First::End => return finish(h, reply),
-            First::Broken => return finish(h, reply),
+        match step.first {
+            First::End | First::Broken => return finish(h, reply),
             First::Tlv { kind, len, size: _ } => {
-                if kind != COMMAND {
-                    at = step.next;
-                    continue;
+                if kind == COMMAND {
+                    let b = at + 4;
+                    let e = b + len;
+                    let c = &tlvs[b..e];
+                    if let Err(code) = commands::run_command(pool, channels, terms, c) {
+                        return put_failure(reply, h, code, id, seq, c);
+                    }
+                    seq += 1;
                 }
-                let b = at + 4;
-                let e = b + len;
-                let c = &tlvs[b..e];
-                let code = commands::run_command(
-                    channels, terms, c, owner, channel, charged, accounting,
-                );
-                if code != 0 {
-                    return put_failure(reply, h, code, id, seq, c);
-                }
-                seq += 1;
                 at = step.next;
             }
         }

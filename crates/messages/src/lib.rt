@@ -2,7 +2,6 @@
 
 // A message from the access server, check by check, and its answer.
 ghost use Rattle.std.specs.Prelude.{◌≡◌, List, ℕ, ◌≤◌, ◌<◌, length};
-ghost use Rattle.pool.specs.Pool.{pool_of, Whole};
 ghost use Rattle.card.specs.Parts.{ComesTo};
 ghost use Rattle.checks.specs.Table.{port_named, table_of};
 ghost use Rattle.messages.specs.Messages.{is_answer, is_notice, by_type, requested, refused_number, offered, by_result, received_of, named_in};
@@ -30,10 +29,7 @@ pub fn port_named(ids: &[u8; 4096], port_count: usize, octets: &[u8]) -> usize
 
 // On the parts of a card that it reads and writes, where p is what `port_named` gives.
 pub fn message_in(
-    owner: &mut [u8; 512],
-    channel: &mut [u8; 512],
-    charged: &mut [bool; 512],
-    accounting: &mut [u8; 512],
+    pool: &mut Pool,
     ids: &[u8; 4096],
     channels: &[u32; 2816],
     terms: Terms,
@@ -41,8 +37,8 @@ pub fn message_in(
     octets: &[u8],
     reply: &mut [u8],
 ) -> Effect
-    requires { Whole (pool_of owner.old channel.old charged.old accounting.old) × (terms.at < 64) × (p ≡ named_in ids.now terms.head.port_count octets.now) }
-    ensures { ComesTo (λ card. received_of ids.now channels.now card octets.now (length reply.old)) p terms (pool_of owner.old channel.old charged.old accounting.old) (pool_of owner.new channel.new charged.new accounting.new) result reply.old reply.new }
+    requires { (terms.at < 64) × (p ≡ named_in ids.now terms.head.port_count octets.now) }
+    ensures { ComesTo (λ card. received_of ids.now channels.now card octets.now (length reply.old)) p terms pool.old pool.new result reply.old reply.new }
 {
     if reply.len() < 4608 {
         return unchanged(terms, 13);
@@ -51,10 +47,7 @@ pub fn message_in(
         return unchanged(terms, 15);
     }
     by_result(
-        owner,
-        channel,
-        charged,
-        accounting,
+        pool,
         ids,
         channels,
         terms,
@@ -66,10 +59,7 @@ pub fn message_in(
 }
 
 fn by_result(
-    owner: &mut [u8; 512],
-    channel: &mut [u8; 512],
-    charged: &mut [bool; 512],
-    accounting: &mut [u8; 512],
+    pool: &mut Pool,
     ids: &[u8; 4096],
     channels: &[u32; 2816],
     terms: Terms,
@@ -78,10 +68,9 @@ fn by_result(
     tlvs: &[u8],
     reply: &mut [u8],
 ) -> Effect
-    requires whole { Whole (pool_of owner.old channel.old charged.old accounting.old) }
     requires space { (4608 ≤ length reply.old) × (length tlvs.now ≤ 4096) }
     requires named { (terms.at < 64) × (p ≡ port_named ids.now terms.head.port_count tlvs.now) }
-    ensures { ComesTo (λ card. by_result ids.now channels.now card h tlvs.now) p terms (pool_of owner.old channel.old charged.old accounting.old) (pool_of owner.new channel.new charged.new accounting.new) result reply.old reply.new }
+    ensures { ComesTo (λ card. by_result ids.now channels.now card h tlvs.now) p terms pool.old pool.new result reply.old reply.new }
 {
     let answer = is_answer(h.result);
     if h.kind == 147 {
@@ -96,17 +85,17 @@ fn by_result(
     if is_notice(h) {
         return unchanged(terms, 0);
     }
-    requested(
-        owner, channel, charged, accounting, ids, channels, terms, p, h, tlvs, reply,
-    )
+    requested(pool, ids, channels, terms, p, h, tlvs, reply)
 }
 
+#[tactic(auto, unfolding(crate::specs::Messages::is_answer))]
 fn is_answer(res: u8) -> bool
     ensures { result ≡ is_answer res }
 {
-    res == 3 || res == 4
+    matches!(res, 3 | 4)
 }
 
+#[tactic(auto, unfolding(crate::specs::Messages::is_notice))]
 fn is_notice(h: Header) -> bool
     ensures { result ≡ is_notice h }
 {
@@ -117,9 +106,8 @@ fn is_notice(h: Header) -> bool
 fn offered(terms: Terms, p: usize, h: Header, tlvs: &[u8]) -> Effect
     ensures { (ids : List ℕ) (pool : Pool) (text : List ℕ) → p ≡ port_named ids terms.head.port_count tlvs.now → ComesTo (λ card. offered card h tlvs.now (table_of ids card h tlvs.now)) p terms pool pool result text text }
 {
-    let x = terms.port;
-    let verdict = checks::check_table(p, x.up, h.kind, h.result, h.transaction, tlvs);
-    match verdict {
+    let up = terms.port.up;
+    match checks::check_table(p, up, h.kind, h.result, h.transaction, tlvs) {
         Err(code) => unchanged(terms, refused_number(code)),
         Ok(_) => {
             let amount = fields::allocation_in(items::first_of(tlvs, ALLOCATION));
@@ -129,23 +117,18 @@ fn offered(terms: Terms, p: usize, h: Header, tlvs: &[u8]) -> Effect
 }
 
 // 15, and 16 for a port's faults.
+#[tactic(auto, unfolding(crate::specs::Messages::refused_number))]
 fn refused_number(code: u16) -> u8
     ensures { result ≡ refused_number code }
 {
-    if code == 0x500 {
-        return 16;
+    match code {
+        0x500 | 0x6 => 16,
+        _ => 15,
     }
-    if code == 0x6 {
-        return 16;
-    }
-    15
 }
 
 fn requested(
-    owner: &mut [u8; 512],
-    channel: &mut [u8; 512],
-    charged: &mut [bool; 512],
-    accounting: &mut [u8; 512],
+    pool: &mut Pool,
     ids: &[u8; 4096],
     channels: &[u32; 2816],
     terms: Terms,
@@ -154,30 +137,23 @@ fn requested(
     tlvs: &[u8],
     reply: &mut [u8],
 ) -> Effect
-    requires whole { Whole (pool_of owner.old channel.old charged.old accounting.old) }
     requires space { (4608 ≤ length reply.old) × (length tlvs.now ≤ 4096) }
     requires named { (terms.at < 64) × (p ≡ port_named ids.now terms.head.port_count tlvs.now) }
-    ensures { ComesTo (λ card. requested ids.now channels.now card h tlvs.now (table_of ids.now card h tlvs.now)) p terms (pool_of owner.old channel.old charged.old accounting.old) (pool_of owner.new channel.new charged.new accounting.new) result reply.old reply.new }
+    ensures { ComesTo (λ card. requested ids.now channels.now card h tlvs.now (table_of ids.now card h tlvs.now)) p terms pool.old pool.new result reply.old reply.new }
 {
-    let x = terms.port;
-    let verdict = checks::check_table(p, x.up, h.kind, h.result, h.transaction, tlvs);
-    match verdict {
+    let up = terms.port.up;
+    match checks::check_table(p, up, h.kind, h.result, h.transaction, tlvs) {
         Err(code) => {
             let n = checks::put_refused(reply, h, tlvs, code);
             card::changed(terms, Change::Kept, n)
         }
-        Ok(_) => by_type(
-            owner, channel, charged, accounting, ids, channels, terms, h, tlvs, reply,
-        ),
+        Ok(_) => by_type(pool, ids, channels, terms, h, tlvs, reply),
     }
 }
 
 // Past the table, on the port at the terms' place.
 fn by_type(
-    owner: &mut [u8; 512],
-    channel: &mut [u8; 512],
-    charged: &mut [bool; 512],
-    accounting: &mut [u8; 512],
+    pool: &mut Pool,
     ids: &[u8; 4096],
     channels: &[u32; 2816],
     terms: Terms,
@@ -185,21 +161,16 @@ fn by_type(
     tlvs: &[u8],
     reply: &mut [u8],
 ) -> Effect
-    requires whole { Whole (pool_of owner.old channel.old charged.old accounting.old) }
-    requires space { (4608 ≤ length reply.old) × (length tlvs.now ≤ 4096) × (terms.at < 64) }
-    ensures { ComesTo (λ card. by_type ids.now channels.now card h tlvs.now terms.at) terms.at terms (pool_of owner.old channel.old charged.old accounting.old) (pool_of owner.new channel.new charged.new accounting.new) result reply.old reply.new }
+    requires { (4608 ≤ length reply.old) × (length tlvs.now ≤ 4096) × (terms.at < 64) }
+    ensures { ComesTo (λ card. by_type ids.now channels.now card h tlvs.now terms.at) terms.at terms pool.old pool.new result reply.old reply.new }
 {
-    if h.kind == 144 {
-        return control::control(
-            owner, channel, charged, accounting, ids, channels, terms, h, tlvs, reply,
-        );
+    match h.kind {
+        144 => control::control(pool, ids, channels, terms, h, tlvs, reply),
+        146 => {
+            let r = fields::request_in(items::first_of(tlvs, REQUEST));
+            transfers::reallocate(pool, ids, channels, terms, h, r, reply)
+        }
+        148 => queries::query_delegation(ids, terms, h, reply),
+        _ => queries::query_flows(pool, ids, channels, terms, h, reply),
     }
-    if h.kind == 146 {
-        let r = fields::request_in(items::first_of(tlvs, REQUEST));
-        return transfers::reallocate(owner, channel, charged, ids, channels, terms, h, r, reply);
-    }
-    if h.kind == 148 {
-        return queries::query_delegation(ids, terms, h, reply);
-    }
-    queries::query_flows(owner, channel, ids, channels, terms, h, reply)
 }

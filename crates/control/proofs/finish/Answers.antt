@@ -2,7 +2,6 @@ use mathlib.Core.Path.{refl}
 use Rattle.card.proofs.Ends.{ends-kept}
 use Rattle.control.proofs.Commands.{all_written, all_silent}
 use Rattle.control.proofs.Ends.{ends-written}
-use borrow.Author.Rules.{rules}
 use Rattle.control.proofs.finish.Goals as goal
 
 pub returns-then-h-ne2 : goal.returns-then-h-ne2

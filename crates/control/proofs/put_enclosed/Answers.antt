@@ -7,7 +7,6 @@ use Rattle.octets.proofs.Parts.{rest_part}
 use Rattle.octets.proofs.Writing.{lent-after}
 use Rattle.writers.specs.Tlvs.{tlv_of, target_of, sequence_of}
 use Rattle.writers.proofs.Tlvs.{length-tlv, length-target, length-sequence}
-use borrow.Author.Rules.{rules}
 use Rattle.control.proofs.put_enclosed.Goals as goal
 
 pub slice_bounds-put_sequence-count : goal.slice_bounds-put_sequence-count

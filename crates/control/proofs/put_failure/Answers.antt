@@ -7,7 +7,6 @@ use Rattle.writers.specs.Tlvs.{tlv_of, target_of, sequence_of}
 use Rattle.replies.proofs.Refusals.{length-refusal, refusal-by}
 use Rattle.control.specs.Control.{failure_of}
 use Rattle.control.proofs.Failure.{length_enclosed}
-use borrow.Author.Rules.{rules}
 use Rattle.control.proofs.put_failure.Goals as goal
 
 pub put_refusal-requires : goal.put_refusal-requires
