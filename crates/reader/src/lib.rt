@@ -1,7 +1,7 @@
 #![tactic(auto)]
 
-// A reader that remembers its place in the message. The functions over it are thin: each takes it apart and leaves the work to
-// a function of crate items on slice and place.
+// A reader that remembers its place in the message. Its methods are thin: each leaves the work to a function of crate items
+// on slice and place.
 ghost use Rattle.std.specs.Prelude.{◌≡◌};
 ghost use Rattle.items.specs.Place.{tlv_at};
 ghost use Rattle.reader.specs.Reader.{reader_at, advanced, step_at};
@@ -14,27 +14,28 @@ pub struct Reader<'a> {
     pub at: usize,
 }
 
-pub fn reader_at<'a>(message: &'a [u8], at: usize) -> Reader<'a>
-    ensures { result ≡ reader_at message.entry at }
-{
-    Reader { message, at }
-}
+impl<'a> Reader<'a> {
+    pub fn new(message: &'a [u8], at: usize) -> Self
+        ensures { result ≡ reader_at message.entry at }
+    {
+        Reader { message, at }
+    }
 
-// What stands at its place.
-pub fn next<'a>(r: Reader<'a>) -> First
-    ensures { result ≡ tlv_at r.entry.message.now r.entry.at }
-{
-    items::tlv_at(r.message, r.at)
-}
+    // What stands at its place.
+    pub fn next(self) -> First
+        ensures { result ≡ tlv_at self.entry.message.now self.entry.at }
+    {
+        items::tlv_at(self.message, self.at)
+    }
 
-// The reader after what stands at its place.
-pub fn advance<'a>(r: Reader<'a>) -> Reader<'a>
-    ensures { result ≡ advanced r.entry }
-{
-    let at = items::place_after(r.message, r.at);
-    Reader {
-        message: r.message,
-        at,
+    // The reader after what stands at its place.
+    pub fn advance(self) -> Self
+        ensures { result ≡ advanced self.entry }
+    {
+        Reader {
+            at: items::place_after(self.message, self.at),
+            ..self
+        }
     }
 }
 
@@ -49,11 +50,9 @@ pub struct Step {
 pub fn step_at(message: &[u8], at: usize) -> Step
     ensures { result ≡ step_at message.now at }
 {
-    let r = reader_at(message, at);
-    let first = next(r);
-    let after = advance(r);
+    let reader = Reader::new(message, at);
     Step {
-        first,
-        next: after.at,
+        first: reader.next(),
+        next: reader.advance().at,
     }
 }

@@ -1,13 +1,13 @@
 -- How many octets each TLV takes, and its parts in the order in which they are written. Assumes nothing.
-use mathlib.Core.Path.{◌≡◌, refl, sym, ap, ◌∙◌}
-use mathlib.Core.List.{List, ◌++◌, append_assoc, append-nil}
+use mathlib.Core.Path.{◌≡◌, sym, ap, ◌∙◌}
+use mathlib.Core.List.{List, ◌++◌, append-nil}
 use Prim.Native.Nat.{ℕ, ◌+◌, ◌-◌, ◌%◌}
 use native.Mathlib.Omega.{arith}
 use lib.ListN.{length, replicate, length-append, length-replicate}
-use Rattle.octets.specs.Numbers.{oct8, oct16, oct32, padded}
+use Rattle.octets.specs.Numbers.{oct8, oct16, padded}
 use Rattle.octets.proofs.Numbers.{length-oct8, length-oct16, length-oct32}
-use Rattle.writers.specs.Tlvs.{tlv_of, target_of, holder_of, status_of, command_of, flow_of, allocation_of, request_of, sequence_of}
-use Rattle.writers.specs.Heads.{head_of, status_head, command_head}
+use Rattle.writers.specs.Tlvs.{tlv_of, target_of, holder_of, flow_of, allocation_of, request_of, sequence_of}
+use Rattle.writers.specs.Heads.{head_of}
 
 pub length-tlv : (t : ℕ) (c : List ℕ) → length (tlv_of t c) ≡ 4 + padded (length c)
 unfolding tlv_of

@@ -26,8 +26,7 @@ pub fn put_bare(buf: &mut [u8], kind: u16) -> usize
     requires { 4 ≤ length buf.old }
     ensures { Wrote (bare_of kind) result buf.old buf.new }
 {
-    octets::put_pair(buf, kind, 0);
-    4
+    put_tlv(buf, kind, &[])
 }
 
 pub fn put_target(buf: &mut [u8], id: &[u8]) -> usize
@@ -39,15 +38,15 @@ pub fn put_target(buf: &mut [u8], id: &[u8]) -> usize
     4 + n
 }
 
+#[tactic(auto, using(octets::proofs::Numbers::bytes32), unfolding(crate::specs::Tlvs::allocation_of, octets::specs::Numbers::oct32))]
 pub fn put_allocation(buf: &mut [u8], amount: u32) -> usize
     requires { 8 ≤ length buf.old }
     ensures { Wrote (allocation_of amount) result buf.old buf.new }
 {
-    octets::put_pair(buf, 0x0015, 4);
-    octets::put32(&mut buf[4..], amount);
-    8
+    put_tlv(buf, 0x0015, &amount.to_be_bytes())
 }
 
+#[tactic(auto, unfolding(crate::specs::Tlvs::request_of, crate::specs::Tlvs::tlv_of, octets::specs::Writing::over, octets::specs::Numbers::oct16, octets::specs::Numbers::oct32))]
 pub fn put_request(buf: &mut [u8], required: u32, preferred: u32) -> usize
     requires { 12 ≤ length buf.old }
     ensures { Wrote (request_of required preferred) result buf.old buf.new }
@@ -58,13 +57,12 @@ pub fn put_request(buf: &mut [u8], required: u32, preferred: u32) -> usize
     12
 }
 
+#[tactic(auto, using(octets::proofs::Numbers::bytes32), unfolding(crate::specs::Tlvs::sequence_of, octets::specs::Numbers::oct32))]
 pub fn put_sequence(buf: &mut [u8], n: u32) -> usize
     requires { 8 ≤ length buf.old }
     ensures { Wrote (sequence_of n) result buf.old buf.new }
 {
-    octets::put_pair(buf, 0x0022, 4);
-    octets::put32(&mut buf[4..], n);
-    8
+    put_tlv(buf, 0x0022, &n.to_be_bytes())
 }
 
 pub fn put_flow(
@@ -106,6 +104,7 @@ pub fn put_command(buf: &mut [u8], code: u8, accounting: u8, n: usize)
 }
 
 // The header of a TLV whose content has n octets, and the first four of them.
+#[tactic(auto, unfolding(crate::specs::Heads::head_of, octets::specs::Writing::over, octets::specs::Numbers::oct8, octets::specs::Numbers::oct16))]
 fn put_head(buf: &mut [u8], kind: u16, n: u16, x: u8, y: u8, z: u16)
     requires { 8 ≤ length buf.old }
     ensures { buf.new ≡ over (head_of kind n x y z) buf.old }

@@ -1,5 +1,5 @@
 use native.Mathlib.Omega.{arith}
-use mathlib.Core.Path.{◌≡◌, refl, sym, ap, ◌∙◌}
+use mathlib.Core.Path.{◌≡◌, refl, ap, ◌∙◌}
 use mathlib.Core.List.{List, ◌++◌}
 use Prim.Native.Nat.{ℕ, ◌+◌, ◌-◌}
 use lib.ListN.{length, replicate, length-append}
@@ -8,7 +8,6 @@ use Rattle.octets.specs.Writing.{over}
 use Rattle.octets.proofs.Writing.{lent-after}
 use Rattle.writers.specs.Heads.{head_of}
 use Rattle.writers.proofs.Tlvs.{length-flow, length-head, flow-parts}
-use borrow.Author.Rules.{rules}
 use Rattle.writers.proofs.put_flow.Goals as goal
 
 pub returns : goal.returns

@@ -1,15 +1,14 @@
 use native.Mathlib.Omega.{arith}
-use mathlib.Core.Path.{◌≡◌, sym, ap, ◌∙◌}
+use mathlib.Core.Path.{ap, ◌∙◌}
 use mathlib.Core.List.{List, ◌++◌}
-use Prim.Native.Nat.{ℕ, ◌+◌}
-use lib.ListN.{length, length-append}
+use Prim.Native.Nat.{ℕ}
+use lib.ListN.{length-append}
 use Rattle.octets.specs.Numbers.{oct16}
 use Rattle.octets.specs.Writing.{over}
 use Rattle.octets.proofs.Numbers.{length-oct16}
 use Rattle.octets.proofs.Writing.{lent-before}
 use Rattle.writers.specs.Tlvs.{tlv_of}
 use Rattle.writers.proofs.Tlvs.{length-tlv, length-target, target-parts}
-use borrow.Author.Rules.{rules}
 use Rattle.writers.proofs.put_target.Goals as goal
 
 pub overflow_cast-n : goal.overflow_cast-n

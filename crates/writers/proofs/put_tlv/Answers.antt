@@ -1,14 +1,13 @@
 use native.Mathlib.Omega.{arith}
-use mathlib.Core.Path.{◌≡◌, sym, ap, ◌∙◌}
+use mathlib.Core.Path.{◌≡◌}
 use mathlib.Core.List.{List, ◌++◌}
 use Prim.Native.Nat.{ℕ, ◌+◌, ◌-◌}
-use lib.ListN.{length, replicate, length-append}
+use lib.ListN.{length, length-append}
 use Rattle.octets.specs.Numbers.{oct16, padded}
 use Rattle.octets.proofs.Numbers.{length-oct16}
 use Rattle.octets.proofs.Writing.{lent-after}
 use Rattle.writers.specs.Tlvs.{tlv_of}
 use Rattle.writers.proofs.Tlvs.{length-tlv}
-use borrow.Author.Rules.{rules}
 use Rattle.writers.proofs.put_tlv.Goals as goal
 
 pub returns : goal.returns
