@@ -1,170 +1,243 @@
-// A line of the script: its call, or where it is wrong.
-use crate::text;
-use crate::text::Line;
-use hexadecimal::Reading;
-use std::io;
-use std::io::Read;
+// The lines of the script: what each does, or where it is wrong.
+ghost use Rattle.std.specs.Prelude.{◌≤◌, length, IfOk};
 
-// What is next: nothing to play; the end; a call, with its verb, where that stands, and how many octets it has; or where
-// the line is wrong, and why.
+use hexadecimal::ReadError;
+use std::fmt;
+use std::io::{BufRead, Read};
+
+// What a line does, by its letter.
+#[derive(Clone, Copy, PartialEq, Eq)]
+pub enum Verb {
+    StartAgain,
+    Message,
+    SmallBuffer,
+    Up,
+    Down,
+    Join,
+    Leave,
+    Delegation,
+    Ask,
+}
+
+// The parts of a line.
 #[derive(Clone, Copy)]
-pub enum Next {
-    Pass,
-    Stop,
-    Call { verb: u8, at: usize, n: usize },
-    Wrong { at: usize, why: u8 },
+pub struct Line<'a> {
+    pub name: &'a [u8],
+    pub verb: Verb,
+    pub octets: &'a [u8],
 }
 
-const LONG: u8 = 0;
+// The script's end; an empty line or a comment; or a line that is played.
+#[derive(Clone, Copy)]
+pub enum Next<'a> {
+    End,
+    Nothing,
+    Play(Line<'a>),
+}
 
-const UNREAD: u8 = 1;
+// Why a line is refused.
+#[derive(Clone, Copy, Debug, PartialEq, Eq)]
+pub enum Why {
+    LongLine,
+    NotRead,
+    NoName,
+    NoVerb,
+    NoSpace,
+    NoDigit,
+    OddDigit,
+    NoRoom,
+    TooFew,
+    TooMany,
+    NoSwitch,
+}
 
-const NAME: u8 = 2;
+// Where a line is wrong: how many of its characters stand before that place.
+#[derive(Clone, Copy, Debug)]
+pub struct Wrong {
+    pub at: usize,
+    pub why: Why,
+}
 
-const VERB: u8 = 3;
+// The most characters that a line has, its end among them.
+const LONGEST: usize = 8257;
 
-const SPACE: u8 = 4;
+// Reads the next line into `text`, and its octets into `buf`. A line is read no further than its end, so it is answered
+// before the next one is there.
+pub fn next_line<'a, R: BufRead>(
+    input: &mut R,
+    text: &'a mut Vec<u8>,
+    buf: &'a mut [u8],
+) -> Result<Next<'a>, Wrong> {
+    text.clear();
+    let mut characters = Read::take(input, LONGEST as u64);
+    if characters.read_until(b'\n', text).is_err() {
+        return Err(Wrong {
+            at: 0,
+            why: Why::NotRead,
+        });
+    }
+    if text.is_empty() {
+        return Ok(Next::End);
+    }
+    if text.last() == Some(&b'\n') {
+        text.pop();
+    } else if text.len() == LONGEST {
+        return Err(Wrong {
+            at: LONGEST,
+            why: Why::LongLine,
+        });
+    }
+    parsed(text.as_slice(), buf)
+}
 
-const DIGIT: u8 = 5;
-
-const ODD: u8 = 6;
-
-const ROOM: u8 = 7;
-
-const FEW: u8 = 8;
-
-const MANY: u8 = 9;
-
-const SWITCH: u8 = 10;
-
-// Reads a line into s and its octets into o.
-pub fn next_call<R: Read>(input: &mut R, s: &mut [u8], o: &mut [u8]) -> Next {
-    match text::read_line(input, s) {
-        Line::Ended(n) => parsed(text::first(s, n), o),
-        Line::Last(n) => last(text::first(s, n), o),
-        Line::Long => Next::Wrong {
-            at: s.len(),
-            why: LONG,
-        },
-        Line::Failed => Next::Wrong { at: 0, why: UNREAD },
+fn parsed<'a>(line: &'a [u8], buf: &'a mut [u8]) -> Result<Next<'a>, Wrong> {
+    if line.is_empty() || line[0] == b'#' {
+        return Ok(Next::Nothing);
+    }
+    let at = line
+        .iter()
+        .position(|c| !c.is_ascii_graphic())
+        .unwrap_or(line.len());
+    let (name, rest) = line.split_at(at);
+    if name.is_empty() {
+        return Err(Wrong {
+            at,
+            why: Why::NoName,
+        });
+    }
+    match rest {
+        [b' ', letter, rest @ ..] => {
+            let verb = Verb::try_from(*letter).map_err(|why| Wrong { at: at + 1, why })?;
+            let n = read_octets(verb, rest, at + 2, buf)?;
+            let octets = &buf[..n];
+            Ok(Next::Play(Line { name, verb, octets }))
+        }
+        [b' '] => Err(Wrong {
+            at: at + 1,
+            why: Why::NoVerb,
+        }),
+        _ => Err(Wrong {
+            at,
+            why: Why::NoSpace,
+        }),
     }
 }
 
-fn last(s: &[u8], o: &mut [u8]) -> Next {
-    if s.len() == 0 {
-        return Next::Stop;
-    }
-    parsed(s, o)
-}
-
-fn parsed(s: &[u8], o: &mut [u8]) -> Next {
-    if s.len() == 0 {
-        return Next::Pass;
-    }
-    if s[0] == b'#' {
-        return Next::Pass;
-    }
-    let e = text::name(s);
-    if e == 0 {
-        return Next::Wrong { at: e, why: NAME };
-    }
-    if s.len() <= e {
-        return Next::Wrong { at: e, why: SPACE };
-    }
-    if s[e] != b' ' {
-        return Next::Wrong { at: e, why: SPACE };
-    }
-    with_verb(s, e + 1, o)
-}
-
-fn with_verb(s: &[u8], v: usize, o: &mut [u8]) -> Next {
-    if s.len() <= v {
-        return Next::Wrong { at: v, why: VERB };
-    }
-    let verb = s[v];
-    if !known(verb) {
-        return Next::Wrong { at: v, why: VERB };
-    }
-    let at = v + 1;
-    if s.len() <= at {
-        return counted(verb, v, at, 0, 0);
-    }
-    if s[at] != b' ' {
-        return Next::Wrong { at, why: SPACE };
-    }
-    with_octets(s, verb, v, at + 1, o)
-}
-
-fn known(verb: u8) -> bool {
-    match verb {
-        b'n' | b'm' | b's' | b'u' | b'x' | b'j' | b'l' | b'd' | b'a' => true,
-        _ => false,
+// Reads what stands behind a verb, at this place: nothing, or a space and as many octets as the verb takes.
+fn read_octets(verb: Verb, s: &[u8], at: usize, buf: &mut [u8]) -> Result<usize, Wrong>
+    ensures { IfOk result (λ n. n ≤ length buf.new) }
+{
+    match s {
+        [] => {
+            verb.check(&[], at)?;
+            Ok(0)
+        }
+        [b' ', digits @ ..] => {
+            let from = at.saturating_add(1);
+            let n = hexadecimal::read(digits, buf).map_err(|e| Wrong::of_digits(e, from))?;
+            verb.check(&buf[..n], from)?;
+            Ok(n)
+        }
+        _ => Err(Wrong {
+            at,
+            why: Why::NoSpace,
+        }),
     }
 }
 
-fn with_octets(s: &[u8], verb: u8, v: usize, at: usize, o: &mut [u8]) -> Next {
-    match hexadecimal::read(text::from(s, at), o) {
-        Reading::NoDigit(i) => wrong(at, i, DIGIT),
-        Reading::OddDigit(i) => wrong(at, i, ODD),
-        Reading::NoRoom(i) => wrong(at, i, ROOM),
-        Reading::Octets(n) => counted(verb, v, at, n, octets::read8(o, 0)),
-    }
-}
+impl TryFrom<u8> for Verb {
+    type Error = Why;
 
-fn counted(verb: u8, v: usize, at: usize, n: usize, first: u8) -> Next {
-    let w = wanted(verb, n);
-    if n < w {
-        return wrong(at, std::num::wrapping_add_usize(n, n), FEW);
-    }
-    if w < n {
-        return wrong(at, std::num::wrapping_add_usize(w, w), MANY);
-    }
-    if verb == b'n' {
-        if 1 < first {
-            return wrong(at, 0, SWITCH);
+    fn try_from(letter: u8) -> Result<Verb, Why> {
+        match letter {
+            b'n' => Ok(Verb::StartAgain),
+            b'm' => Ok(Verb::Message),
+            b's' => Ok(Verb::SmallBuffer),
+            b'u' => Ok(Verb::Up),
+            b'x' => Ok(Verb::Down),
+            b'j' => Ok(Verb::Join),
+            b'l' => Ok(Verb::Leave),
+            b'd' => Ok(Verb::Delegation),
+            b'a' => Ok(Verb::Ask),
+            _ => Err(Why::NoVerb),
         }
     }
-    Next::Call { verb, at: v, n }
 }
 
-// How many octets a verb takes, where n are given.
-fn wanted(verb: u8, n: usize) -> usize {
-    match verb {
-        b'n' => { if n == 0 { 0 } else { 1 } }
-        b'u' | b'x' => 1,
-        b'j' | b'l' => { if n <= 5 { 5 } else { 9 } }
-        b'd' => 5,
-        b'a' => 9,
-        _ => n,
+impl Verb {
+    // How many octets a verb takes, where n are given.
+    fn wanted(self, n: usize) -> usize {
+        match self {
+            Verb::StartAgain => n.min(1),
+            Verb::Up | Verb::Down => 1,
+            Verb::Join | Verb::Leave => if n <= 5 { 5 } else { 9 },
+            Verb::Delegation => 5,
+            Verb::Ask => 9,
+            Verb::Message | Verb::SmallBuffer => n,
+        }
+    }
+
+    // Whether the octets are as many as the verb takes, and the switch is 00 or 01; their digits begin at this place.
+    fn check(self, octets: &[u8], from: usize) -> Result<(), Wrong> {
+        let n = octets.len();
+        let wanted = self.wanted(n);
+        if n != wanted {
+            let why = if n < wanted {
+                Why::TooFew
+            } else {
+                Why::TooMany
+            };
+            let at = from.saturating_add(n.min(wanted).saturating_mul(2));
+            return Err(Wrong { at, why });
+        }
+        if self == Verb::StartAgain && octets.first().is_some_and(|x| *x > 1) {
+            return Err(Wrong {
+                at: from,
+                why: Why::NoSwitch,
+            });
+        }
+        Ok(())
     }
 }
 
-fn wrong(from: usize, more: usize, why: u8) -> Next {
-    Next::Wrong {
-        at: std::num::wrapping_add_usize(from, more),
-        why,
+impl Wrong {
+    fn of_digits(e: ReadError, from: usize) -> Wrong {
+        let (i, why) = match e {
+            ReadError::NoDigit(i) => (i, Why::NoDigit),
+            ReadError::OddDigit(i) => (i, Why::OddDigit),
+            ReadError::NoRoom(i) => (i, Why::NoRoom),
+        };
+        Wrong {
+            at: from.saturating_add(i),
+            why,
+        }
     }
 }
 
-// Says the line and the character, both from 1 on, and why, on standard error.
-pub fn say_wrong<P: Print>(to: &P, number: u64, at: usize, why: u8) -> io::Result<()> {
-    let place = std::num::wrapping_add_u64(at as u64, 1);
-    print!(to; "drafts: line {number}, character {place}")?;
-    say_why(to, why)
+// The place counts from 1 on.
+impl fmt::Display for Wrong {
+    fn fmt<W: fmt::Write>(&self, f: &mut fmt::Formatter<W>) -> fmt::Result {
+        let place = self.at.saturating_add(1);
+        let why = self.why;
+        write!(f, "character {place}: {why}")
+    }
 }
 
-fn say_why<P: Print>(to: &P, why: u8) -> io::Result<()> {
-    match why {
-        LONG => to.write_all(b": the line is too long\n"),
-        UNREAD => to.write_all(b": the script cannot be read\n"),
-        NAME => to.write_all(b": no name\n"),
-        VERB => to.write_all(b": no verb\n"),
-        SPACE => to.write_all(b": no space\n"),
-        DIGIT => to.write_all(b": no hexadecimal digit\n"),
-        ODD => to.write_all(b": half an octet\n"),
-        ROOM => to.write_all(b": more than 4,097 octets\n"),
-        FEW => to.write_all(b": too few octets\n"),
-        MANY => to.write_all(b": too many octets\n"),
-        _ => to.write_all(b": neither 00 nor 01\n"),
+impl fmt::Display for Why {
+    fn fmt<W: fmt::Write>(&self, f: &mut fmt::Formatter<W>) -> fmt::Result {
+        let text = match self {
+            Why::LongLine => "the line is too long",
+            Why::NotRead => "the script cannot be read",
+            Why::NoName => "no name",
+            Why::NoVerb => "no verb",
+            Why::NoSpace => "no space",
+            Why::NoDigit => "no hexadecimal digit",
+            Why::OddDigit => "half an octet",
+            Why::NoRoom => "more than 4,097 octets",
+            Why::TooFew => "too few octets",
+            Why::TooMany => "too many octets",
+            Why::NoSwitch => "neither 00 nor 01",
+        };
+        write!(f, "{text}")
     }
 }

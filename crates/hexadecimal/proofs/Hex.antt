@@ -1,34 +1,58 @@
 -- Laws of hexadecimal text.
---     digits_turn, -stop, -end    the digits from a place on, where a digit stands there, where none does, at the end
+--     found, none_found           what the place of the first character that is no digit says of the digits
 --     all_digits                  in a text of digits alone, each is one
 --     length-octets, octet_at     how many octets n pairs stand for, and which
 --     no_digit, odd_digit, no_room, octets    what a text comes to, case by case
+--     text_more                   what one octet more prints
 -- Assumes nothing.
 use Prim.Native.Nat.{ℕ, zero, suc, ◌+◌, ◌*◌, ◌-◌, ◌/◌, ◌%◌, ◌≤◌, ◌<◌}
 use mathlib.Core.Path.{◌≡◌, refl, ap, ap₂, ◌∙◌}
 use mathlib.Core.Bool.{Bool, true, false, cond}
-use mathlib.Core.List.{List, [], ◌∷◌}
+use mathlib.Core.List.{List, [], ◌∷◌, ◌++◌}
 use native.Mathlib.Omega.{arith}
-use native.Mathlib.Numerals.{add-one}
 use lib.Dec.{ltb}
-use lib.ListN.{length, drop, get_or, drop_of_length-le}
-use lib.Seq.{drop-cons}
-use borrow.Author.Tests.{lt-ltb, le-ltb, ltb-true, eq-eqb, ne_eqb}
-use Rattle.hexadecimal.specs.Hex.{value_of, digits_in, octets_in, reading_of}
-use Rattle.hexadecimal.specs.declared.Reading.TheVariants.{Octets, NoDigit, OddDigit, NoRoom}
+use lib.ListN.{length, take, get_or}
+use borrow.Author.Tests.{lt-ltb, le-ltb, ltb-true, ltb-false, eq-eqb, ne_eqb}
+use Rattle.hexadecimal.specs.Hex.{value_of, digit_of, digits_in, octets_in, reading_of, capital, text_of}
+use Rattle.std.specs.Prelude.{Ok, Err, Some, None}
+use Rattle.std.specs.Option.{is_none, unwrap_or}
+use Rattle.std.specs.List.{position_or_len, position}
+use Rattle.std.proofs.Common.{nat_lt, sym}
+use Rattle.std.proofs.lemmas.Grind.{common_steps}
+use Rattle.std.proofs.lemmas.List.Recursion.{is_position_or_len}
+use Rattle.hexadecimal.specs.declared.ReadError.TheVariants.{NoDigit, OddDigit, NoRoom}
 
-module _ (s : List ℕ) (i : ℕ) where
-  pub digits_turn : i < length s → value_of (get_or s i 0) < 16 → digits_in (drop i s) ≡ suc (digits_in (drop (i + 1) s))
-  unfolding digits_in
-  digits_turn h d = rw (add-one, drop-cons s i 0, lt-ltb (value_of (get_or s i 0)) 16 d)
+digits_or_none : (x : ℕ) (xs : List ℕ) → digits_in (x ∷ xs) ≡ cond (is_none (digit_of x)) 0 (1 + digits_in xs)
+unfolding digits_in digit_of
+digits_or_none x xs = go (ltb (value_of x) 16)
+  where
+    go : (b : Bool) → cond b (suc (digits_in xs)) 0 ≡ cond (is_none (cond b (Some (value_of x)) None)) 0 (1 + digits_in xs)
+    go true = omega arith
+    go false = refl
 
-  pub digits_stop : i < length s → 16 ≤ value_of (get_or s i 0) → digits_in (drop i s) ≡ 0
-  unfolding digits_in
-  digits_stop h d = rw (drop-cons s i 0, le-ltb (value_of (get_or s i 0)) 16 d)
+abbrev other : ℕ → Bool
+other x = is_none (digit_of x)
 
-  pub digits_end : length s ≤ i → digits_in (drop i s) ≡ 0
-  unfolding digits_in
-  digits_end h = ap digits_in (drop_of_length-le s h)
+digits_position : (s : List ℕ) → digits_in s ≡ position_or_len other s
+digits_position = is_position_or_len digits_in other (unfold digits_in in refl) digits_or_none
+
+-- where the first character that is no digit stands
+pub found : (s : List ℕ) (at : ℕ) → Some at ≡ position other s → (at ≡ digits_in s) × (at < length s)
+found s at e = go (nat_lt (position_or_len other s) (length s)) refl e
+  where
+    go : (b : Bool) → nat_lt (position_or_len other s) (length s) ≡ b → Some at ≡ cond b (Some (position_or_len other s)) None
+        → (at ≡ digits_in s) × (at < length s)
+    go true t e = let same = ap (λ o. unwrap_or o 0) e in
+        (same ∙ sym (digits_position s), let k = ltb-true (position_or_len other s) (length s) t in omega arith)
+    go false t e = absurd (cc e)
+
+pub none_found : (s : List ℕ) → None ≡ position other s → length s ≤ digits_in s
+none_found s e = go (nat_lt (position_or_len other s) (length s)) refl e
+  where
+    go : (b : Bool) → nat_lt (position_or_len other s) (length s) ≡ b → None ≡ cond b (Some (position_or_len other s)) None
+        → length s ≤ digits_in s
+    go true t e = absurd (cc e)
+    go false t e = let k = ltb-false (position_or_len other s) (length s) t in omega (arith, digits_position s)
 
 pub all_digits : (s : List ℕ) (i : ℕ) → digits_in s ≡ length s → i < length s → value_of (get_or s i 0) < 16
 unfolding digits_in
@@ -71,20 +95,25 @@ digits_le (x ∷ s) = go (ltb (value_of x) 16) (digits_le s)
 
 -- ---- what a text comes to, case by case
 module _ (s : List ℕ) (space : ℕ) where
-  pub no_digit : (d : ℕ) → d ≡ digits_in s → d < length s → NoDigit d ≡ reading_of s space
+  pub no_digit : (d : ℕ) → d ≡ digits_in s → d < length s → Err (NoDigit d) ≡ reading_of s space
   unfolding reading_of
   no_digit d e h = rw e (simp (lt-ltb (digits_in s) (length s) (omega arith)))
 
   module _ (h : length s ≤ digits_in s) where
-    pub odd_digit : length s % 2 ≡ 1 → OddDigit (length s - 1) ≡ reading_of s space
+    pub odd_digit : length s % 2 ≡ 1 → Err (OddDigit (length s - 1)) ≡ reading_of s space
     unfolding reading_of
     odd_digit k = simp (le-ltb (digits_in s) (length s) h, eq-eqb (length s % 2) 1 k)
 
     module _ (k : length s % 2 ≡ 1 → ⊥) where
-      pub no_room : space < length s / 2 → NoRoom (space * 2) ≡ reading_of s space
+      pub no_room : space < length s / 2 → Err (NoRoom (space * 2)) ≡ reading_of s space
       unfolding reading_of
       no_room l = simp (le-ltb (digits_in s) (length s) h, ne_eqb (length s % 2) 1 k, lt-ltb space (length s / 2) l)
 
-      pub octets : length s / 2 ≤ space → Octets (length s / 2) ≡ reading_of s space
+      pub octets : length s / 2 ≤ space → Ok (length s / 2) ≡ reading_of s space
       unfolding reading_of
       octets l = simp (le-ltb (digits_in s) (length s) h, ne_eqb (length s % 2) 1 k, le-ltb space (length s / 2) l)
+
+-- ---- what octets print as
+pub text_more : (xs : List ℕ) (i : ℕ) → i < length xs
+    → text_of (take i xs) ++ (capital (get_or xs i 0 / 16) ∷ capital (get_or xs i 0 % 16) ∷ []) ≡ text_of (take (i + 1) xs)
+text_more xs i h = grind (arith, common_steps)

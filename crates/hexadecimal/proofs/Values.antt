@@ -1,9 +1,10 @@
 -- Laws of a digit's value, one for each range of characters. Assumes nothing.
 use Prim.Native.Nat.{ℕ, ◌+◌, ◌-◌, ◌≤◌, ◌<◌}
 use mathlib.Core.Path.{◌≡◌}
+use Rattle.std.specs.Prelude.{Some, None}
 use native.Mathlib.Omega.{arith}
 use borrow.Author.Tests.{lt-ltb, le-ltb, le-leb, lt-leb}
-use Rattle.hexadecimal.specs.Hex.{value_of}
+use Rattle.hexadecimal.specs.Hex.{value_of, digit_of}
 
 module _ (x : ℕ) where
   pub below_0 : x < 48 → 16 ≡ value_of x
@@ -38,3 +39,16 @@ module _ (x : ℕ) where
     beyond k =
         simp
         (le-ltb x 48 (omega arith), lt-leb x 57 (omega arith), le-ltb x 65 (omega arith), lt-leb x 70 h, le-ltb x 97 (omega arith), lt-leb x 102 k)
+
+module _ (x : ℕ) where
+  pub digit_some : (v : ℕ) → v ≡ value_of x → v < 16 → Some v ≡ digit_of x
+  unfolding digit_of
+  digit_some v e h = rw e (simp (lt-ltb (value_of x) 16 (omega arith)))
+
+  pub digit_none : 16 ≡ value_of x → None ≡ digit_of x
+  unfolding digit_of
+  digit_none e = simp (le-ltb (value_of x) 16 (omega arith))
+
+  pub digit_is : value_of x < 16 → digit_of x ≡ Some (value_of x)
+  unfolding digit_of
+  digit_is h = simp (lt-ltb (value_of x) 16 h)

@@ -1,5 +1,6 @@
 // The rows of the table.
-use std::io;
+use std::fmt;
+use std::fmt::{Formatter, Write};
 
 // What the card has of port 0 before the call, and the extras of all ports.
 #[derive(Clone, Copy)]
@@ -10,9 +11,18 @@ pub struct Given {
     pub extras: usize,
 }
 
+// The call of a row, with what the row says of it: the rate of the channel that is joined, the amounts of a 146, the
+// next transaction number before the host asks.
+#[derive(Clone, Copy)]
+pub enum Call {
+    Join { rate: u32 },
+    Request { required: u32, preferred: u32 },
+    Ask { next: u32 },
+}
+
 // What is read of a case: the call's number; the reply's Result, code, amount and transaction; then port 0's delegation,
 // whether the flow of a join is active there, and the next transaction number.
-#[derive(Clone, Copy)]
+#[derive(Clone, Copy, PartialEq, Eq)]
 pub struct Shown {
     pub number: u8,
     pub result: u8,
@@ -24,142 +34,76 @@ pub struct Shown {
     pub next: u32,
 }
 
-pub fn heading<P: Print>(rt: &P) -> io::Result<()> {
-    rt.write_all(
-        b"The starred cases, on port 0: what is given | what is expected | what the card did | do they agree\n",
-    )
+// The rows agree where all that is read is the same, also what the row does not print.
+#[derive(Clone, Copy)]
+pub struct Row {
+    pub given: Given,
+    pub call: Call,
+    pub expected: Shown,
+    pub did: Shown,
 }
 
-pub fn of_join<P: Print>(
-    rt: &P,
-    given: Given,
-    rate: u32,
-    expected: Shown,
-    did: Shown,
-) -> io::Result<()> {
-    say_given(rt, given)?;
-    say(rt, b", flows ", given.flows as u64, 2)?;
-    say(rt, b", extras ", given.extras as u64, 3)?;
-    say(rt, b": join of rate ", rate as u64, 4)?;
-    say_join(rt, expected)?;
-    say_join(rt, did)?;
-    say_verdict(rt, same(expected, did))
-}
-
-pub fn of_request<P: Print>(
-    rt: &P,
-    given: Given,
-    required: u32,
-    preferred: u32,
-    expected: Shown,
-    did: Shown,
-) -> io::Result<()> {
-    say_given(rt, given)?;
-    say(rt, b": 146 with ", required as u64, 4)?;
-    say(rt, b"/", preferred as u64, 4)?;
-    say_answer(rt, expected)?;
-    say_answer(rt, did)?;
-    say_verdict(rt, same(expected, did))
-}
-
-pub fn of_ask<P: Print>(
-    rt: &P,
-    given: Given,
-    next: u32,
-    expected: Shown,
-    did: Shown,
-) -> io::Result<()> {
-    say_given(rt, given)?;
-    say(rt, b", next number ", next as u64, 1)?;
-    rt.write_all(b": ask for 7000/8000")?;
-    say_number(rt, expected)?;
-    say_number(rt, did)?;
-    say_verdict(rt, same(expected, did))
-}
-
-fn say_given<P: Print>(rt: &P, given: Given) -> io::Result<()> {
-    say(rt, b"delegation ", given.delegation as u64, 4)?;
-    say(rt, b", committed ", given.committed, 4)
-}
-
-fn say_join<P: Print>(rt: &P, x: Shown) -> io::Result<()> {
-    say(rt, b" | number ", x.number as u64, 1)?;
-    if x.active {
-        rt.write_all(b", starts        ")
-    } else {
-        rt.write_all(b", does not start")
+impl fmt::Display for Row {
+    fn fmt<W: Write>(&self, f: &mut Formatter<W>) -> fmt::Result {
+        self.write_given(f)?;
+        self.write_shown(f, &self.expected)?;
+        self.write_shown(f, &self.did)?;
+        let verdict = if self.expected == self.did {
+            "yes"
+        } else {
+            "NO"
+        };
+        write!(f, " | {verdict}")
     }
 }
 
-fn say_answer<P: Print>(rt: &P, x: Shown) -> io::Result<()> {
-    say(rt, b" | Result ", x.result as u64, 1)?;
-    rt.write_all(b", code 0x")?;
-    let code = x.code;
-    print!(rt; "{code:02x}")?;
-    say(rt, b", amount ", x.amount as u64, 4)?;
-    say(rt, b", delegation ", x.delegation as u64, 4)
-}
+impl Row {
+    fn write_given<W: Write>(&self, f: &mut Formatter<W>) -> fmt::Result {
+        let Given {
+            delegation,
+            committed,
+            flows,
+            extras,
+        } = self.given;
+        write!(f, "delegation {delegation:4}, committed {committed:4}")?;
+        match self.call {
+            Call::Join { rate } => {
+                write!(
+                    f,
+                    ", flows {flows:2}, extras {extras:3}: join of rate {rate:4}"
+                )
+            }
+            Call::Request {
+                required,
+                preferred,
+            } => { write!(f, ": 146 with {required:4}/{preferred:4}") }
+            Call::Ask { next } => write!(f, ", next number {next}: ask for 7000/8000"),
+        }
+    }
 
-fn say_number<P: Print>(rt: &P, x: Shown) -> io::Result<()> {
-    say(rt, b" | transaction ", x.transaction as u64, 1)?;
-    say(rt, b", next number ", x.next as u64, 1)
-}
-
-fn say_verdict<P: Print>(rt: &P, agree: bool) -> io::Result<()> {
-    if agree {
-        rt.write_all(b" | yes\n")
-    } else {
-        rt.write_all(b" | NO\n")
+    fn write_shown<W: Write>(&self, f: &mut Formatter<W>, shown: &Shown) -> fmt::Result {
+        let Shown {
+            number,
+            result,
+            code,
+            amount,
+            transaction,
+            delegation,
+            active,
+            next,
+        } = *shown;
+        match self.call {
+            Call::Join { .. } => {
+                let starts = if active { "starts" } else { "does not start" };
+                write!(f, " | number {number}, {starts:14}")
+            }
+            Call::Request { .. } => {
+                write!(
+                    f,
+                    " | Result {result}, code 0x{code:02x}, amount {amount:4}, delegation {delegation:4}"
+                )
+            }
+            Call::Ask { .. } => write!(f, " | transaction {transaction}, next number {next}"),
+        }
     }
-}
-
-// All that is read, also what the row does not print.
-fn same(a: Shown, b: Shown) -> bool {
-    if a.number != b.number {
-        return false;
-    }
-    if a.result != b.result {
-        return false;
-    }
-    if a.code != b.code {
-        return false;
-    }
-    if a.amount != b.amount {
-        return false;
-    }
-    if a.transaction != b.transaction {
-        return false;
-    }
-    if a.delegation != b.delegation {
-        return false;
-    }
-    if a.active != b.active {
-        return false;
-    }
-    a.next == b.next
-}
-
-// A number, with spaces before it up to so many characters.
-fn say<P: Print>(rt: &P, what: &[u8], n: u64, width: usize) -> io::Result<()> {
-    rt.write_all(what)?;
-    let k = digits(n);
-    if k < width {
-        rt.write_all(first(b"    ", width - k))?;
-    }
-    rt.print(n)
-}
-
-// How many decimal digits a number has.
-fn digits(n: u64) -> usize {
-    match n.checked_ilog10() {
-        Some(k) => k as usize + 1,
-        None => 1,
-    }
-}
-
-fn first<'a>(s: &'a [u8], n: usize) -> &'a [u8] {
-    if s.len() < n {
-        return s;
-    }
-    &s[0..n]
 }

@@ -1,24 +1,37 @@
 use mathlib.Core.Path.{refl}
 use native.Mathlib.Omega.{arith}
 use Rattle.hexadecimal.specs.Hex.{left_by}
-use Rattle.hexadecimal.proofs.Hex.{digits_le, no_digit, odd_digit, no_room, octets}
+use Rattle.hexadecimal.proofs.Hex.{digits_le, found, none_found, no_digit, odd_digit, no_room, octets}
 use Rattle.hexadecimal.proofs.read.Goals as goal
 
-pub returns-then-d-s : goal.returns-then-d-s
-unfolding left_by
-returns-then-d-s c = record { value = no_digit _ _ _ c.digits-d.ensures (omega arith); buf_after = refl }
+pub returns-in-Some-clause-value : goal.returns-in-Some-clause-value
+returns-in-Some-clause-value c = let h = found c.args.s.now _ c.in-Some.ensures in no_digit _ _ _ h.0 h.1
 
-pub returns-then-s-eq1 : goal.returns-then-s-eq1
+pub returns-in-Some-clause-buf_after : goal.returns-in-Some-clause-buf_after
 unfolding left_by
-returns-then-s-eq1 c = record { value = odd_digit _ _ (omega (arith, c.digits-d.ensures)) (omega arith); buf_after = refl }
+returns-in-Some-clause-buf_after c = refl
 
-pub returns-then-buf-n : goal.returns-then-buf-n
+pub returns-then-s-eq1-clause-value : goal.returns-then-s-eq1-clause-value
+returns-then-s-eq1-clause-value c = odd_digit _ _ (none_found _ c.in_default.ensures) (omega arith)
+
+pub returns-then-s-eq1-clause-buf_after : goal.returns-then-s-eq1-clause-buf_after
 unfolding left_by
-returns-then-buf-n c = record { value = no_room _ _ (omega (arith, c.digits-d.ensures)) (λ e. omega arith) (omega arith); buf_after = refl }
+returns-then-s-eq1-clause-buf_after c = refl
+
+pub returns-then-buf-n-clause-value : goal.returns-then-buf-n-clause-value
+returns-then-buf-n-clause-value c = no_room _ _ (none_found _ c.in_default.ensures) (λ e. omega arith) (omega arith)
+
+pub returns-then-buf-n-clause-buf_after : goal.returns-then-buf-n-clause-buf_after
+unfolding left_by
+returns-then-buf-n-clause-buf_after c = refl
 
 pub put_pairs-requires : goal.put_pairs-requires
-put_pairs-requires c = (omega arith, omega arith, omega (arith, c.digits-d.ensures, digits_le c.args.s.now))
+put_pairs-requires c =
+    let h = none_found c.args.s.now c.in_default.ensures in (omega arith, omega arith, omega (arith, h, digits_le c.args.s.now))
 
-pub returns : goal.returns
+pub returns-clause-value : goal.returns-clause-value
+returns-clause-value c = octets _ _ (none_found _ c.in_default.ensures) (λ e. omega arith) (omega arith)
+
+pub returns-clause-buf_after : goal.returns-clause-buf_after
 unfolding left_by
-returns c = record { value = octets _ _ (omega (arith, c.digits-d.ensures)) (λ e. omega arith) (omega arith); buf_after = c.put_pairs.ensures }
+returns-clause-buf_after c = c.put_pairs.ensures
