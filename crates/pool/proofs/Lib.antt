@@ -1,4 +1,5 @@
 pub mod Turns
+pub mod Places
 pub mod Rooms
 pub mod Whole
 pub mod Marks

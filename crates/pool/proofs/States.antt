@@ -1,15 +1,13 @@
--- What a port's flow has: the search for its first record, and that the flow is active where there is one.
---     held_start, held-here, held_on, held_skip, held_end    the beginning of the search, one turn, and its end
---     state_active                                           the flow is active where a record is found
+-- What a port's flow has: the flow is active where a record is found (state_active).
 -- Assumes nothing.
 use Rattle.std.specs.Prelude.{Option, Some, None}
 use Prim.Native.Nat.{ℕ, ◌+◌, ◌-◌, ◌≤◌, ◌<◌}
-use mathlib.Core.Path.{◌≡◌, refl, sym, ap, ◌∙◌}
+use mathlib.Core.Path.{◌≡◌, refl, sym, ◌∙◌}
 use mathlib.Core.Bool.{Bool, true, false, cond, ◌&&◌, false≢true}
 use mathlib.Core.List.{List}
 use native.Mathlib.Omega.{arith}
 use lib.ListN.{get_or}
-use lib.Dec.{eqb, ltb}
+use lib.Dec.{eqb}
 use borrow.Author.Tests.{eq-eqb, ne_eqb, eqb-true, lt-ltb, le-ltb}
 use Rattle.octets.proofs.Tests.{both}
 use Rattle.rows.specs.Rows.{first_from, first_row}
@@ -17,41 +15,11 @@ use Rattle.rows.proofs.Rows.{first-start, first-here, first_on, first_end, found
 use Rattle.rows.proofs.Nexts.{kept-over}
 use Rattle.sums.proofs.Sums.{sum_to-none}
 use Rattle.pool.specs.Pool.{is_of, Next, sum_over, is_held, holds_in, active_in, state_at, state_in}
-use Rattle.pool.specs.declared.FlowState.{FlowState}
 use Rattle.pool.proofs.Turns.{sum-at}
 
 module _ (owner channel : List ℕ) (p k : ℕ) where
   abbrev test : ℕ → Bool
   test = is_held owner channel p k
-
-  -- what is found among the records from i on
-  abbrev pub held_from : ℕ → Option ℕ
-  held_from i = first_from i (512 - i) test
-
-  pub held_start : first_row 512 test ≡ held_from 0
-  held_start = first-start test refl
-
-  module _ (i : ℕ) where
-    held-not : (get_or owner i 0 ≡ p → ⊥) → test i ≡ false
-    held-not h = simp (ne_eqb (get_or owner i 0) p h)
-
-    held_other : get_or owner i 0 ≡ p → (get_or channel i 0 ≡ k → ⊥) → test i ≡ false
-    held_other o h = simp (eq-eqb (get_or owner i 0) p o, ne_eqb (get_or channel i 0) k h)
-
-    pub held-here : {r : Option ℕ} → r ≡ held_from i → i < 512 → get_or owner i 0 ≡ p → get_or channel i 0 ≡ k → Some i ≡ r
-    held-here inv l o h = first-here test i 512 inv l (simp (eq-eqb (get_or owner i 0) p o, eq-eqb (get_or channel i 0) k h))
-
-    pub held_on : {r : Option ℕ} → r ≡ held_from i → i < 512 → get_or owner i 0 ≡ p → (get_or channel i 0 ≡ k → ⊥) → r ≡ held_from (i + 1)
-    held_on inv l o h = first_on test i 512 inv l (held_other o h)
-
-    pub held_end : {r : Option ℕ} → r ≡ held_from i → 512 ≤ i → None ≡ r
-    held_end inv m = first_end test i 512 inv m
-
-  -- on to the port's next record
-  pub held_skip : (i : ℕ) {n : ℕ} {r : Option ℕ} → r ≡ held_from i → Next owner p i n → r ≡ held_from n
-  held_skip i {n} inv x =
-      inv ∙ kept-over held_from i n x.reached
-      (λ j a b. first_on test j 512 refl (omega (arith, x.most)) (held-not j (x.others j a b)))
 
   -- ---- active where a record is found
   some : (i : ℕ) → i < 512 → test i ≡ true → true ≡ active_in owner channel p k

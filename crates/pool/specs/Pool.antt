@@ -21,6 +21,10 @@ is_of owner p i = eqb (get_or owner i 0) p
 abbrev pub Next : List ℕ → ℕ → ℕ → ℕ → Type 0
 Next owner p from r = NextWith (λ i. get_or owner i 0) p 512 from r
 
+-- the numbers of port p's records, in order
+unfoldable pub records_in : List ℕ → ℕ → List ℕ
+records_in owner p = pick_to 512 (is_of owner p) (λ i. i)
+
 -- the sum over port p's records of what f gives for each; shut, so that 512 terms are never written out
 unfoldable pub sum_over : List ℕ → ℕ → (ℕ → ℕ) → ℕ
 sum_over owner p f = sum_to 512 (λ i. cond (is_of owner p i) (f i) 0)

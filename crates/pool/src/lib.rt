@@ -2,14 +2,14 @@
 
 // The 512 flow records: which port each belongs to, its channel, whether it is charged, and its accounting.
 // No figure is stored: counts, extras and committed amounts are read off the records.
-ghost use Rattle.std.specs.Prelude.{◌≡◌, ◌+◌, ◌<◌, ◌≤◌, false};
-ghost use Rattle.rows.specs.Rows.{none_of};
+ghost use Rattle.std.specs.Prelude.{◌≡◌, ◌+◌, ◌<◌, ◌≤◌, false, []};
 ghost use Rattle.sums.specs.Sums.{map_to};
 ghost use Rattle.channels.specs.Channels.{is_row};
-ghost use Rattle.pool.specs.Pool.{is_of, Next, count_in, committed_in, active_in, active_where, extras_in, free_in, room_in, fresh_pool, began, has_flow, is_active, ended_flow, ended_all, accounted, rows_in, as_rows, state_in};
+ghost use Rattle.pool.specs.Pool.{Next, records_in, count_in, committed_in, active_in, active_where, extras_in, free_in, room_in, fresh_pool, began, has_flow, is_active, ended_flow, ended_all, accounted, rows_in, as_rows, state_in};
 
 use channels::{channel_at, rate_at};
 use flows::{Flow, same_flow};
+use memchr::{Memchr, memchr, memchr_iter};
 
 // No port has this number: a record with it as its owner is free.
 pub const FREE: u8 = 255;
@@ -32,9 +32,20 @@ pub struct Rows {
     pub rows: [u8; 16],
 }
 
+impl Rows {
+    pub fn none() -> Rows
+        ensures { result ≡ as_rows [] }
+    {
+        Rows {
+            count: 0,
+            rows: [0; 16],
+        }
+    }
+}
+
 // What a port's flow of a channel has: its charge and its accounting. Where it is not active they are false and 0.
 #[repr(C)]
-#[derive(Clone, Copy)]
+#[derive(Clone, Copy, Default)]
 pub struct FlowState {
     pub active: bool,
     pub charged: bool,
@@ -117,29 +128,29 @@ impl Pool {
 
 // ---- figures, read off maps that are lent
 
+// The numbers of the port's records, in order.
+fn records<'a>(owner: &'a [u8; 512], p: u8) -> Memchr<'a>
+    ensures { result ≡ records_in owner.now p }
+{
+    memchr_iter(p, owner)
+}
+
 // How many flows the port has.
 pub fn active_count(owner: &[u8; 512], p: u8) -> usize
     ensures { result ≡ count_in owner.now p }
 {
-    let mut n: usize = 0;
-    let mut i = next_of(owner, p, 0);
-    while i < 512 {
-        n += 1;
-        i = next_of(owner, p, i + 1);
-    }
-    n
+    // The trait's count, from find to find: Memchr's own looks at each octet apart.
+    Iterator::count(records(owner, p))
 }
 
 // The port has the flow of channel k.
 pub fn is_active<'a>(owner: &'a [u8; 512], channel: &'a [u8; 512], p: u8, k: u8) -> bool
     ensures { result ≡ active_in owner.now channel.now p k }
 {
-    let mut i = next_of(owner, p, 0);
-    while i < 512 {
+    for i in records(owner, p) {
         if channel[i] == k {
             return true;
         }
-        i = next_of(owner, p, i + 1);
     }
     false
 }
@@ -156,8 +167,7 @@ pub fn state_of<'a>(
     ensures state { result ≡ state_in owner.now channel.now charged.now accounting.now p k }
     ensures active { result.active ≡ active_in owner.now channel.now p k }
 {
-    let mut i = next_of(owner, p, 0);
-    while i < 512 {
+    for i in records(owner, p) {
         if channel[i] == k {
             return FlowState {
                 active: true,
@@ -165,13 +175,8 @@ pub fn state_of<'a>(
                 accounting: accounting[i],
             };
         }
-        i = next_of(owner, p, i + 1);
     }
-    FlowState {
-        active: false,
-        charged: false,
-        accounting: 0,
-    }
+    FlowState::default()
 }
 
 // The rates of the port's charged flows.
@@ -185,38 +190,24 @@ pub fn committed_of<'a>(
     ensures { result ≡ committed_in channels.now owner.now channel.now charged.now p }
 {
     let mut sum: u64 = 0;
-    let mut i = next_of(owner, p, 0);
-    while i < 512 {
+    for i in records(owner, p) {
         if charged[i] {
-            sum += wide(rate_at(channels, channel[i]));
+            sum += u64::from(rate_at(channels, channel[i]));
         }
-        i = next_of(owner, p, i + 1);
     }
     sum
-}
-
-fn wide(x: u32) -> u64
-    ensures { (result ≡ x) × (result < 4294967296) }
-{
-    x as u64
 }
 
 // The channels of the port's flows, in the order of the records.
 pub fn rows_of<'a>(owner: &'a [u8; 512], channel: &'a [u8; 512], p: u8) -> Rows
     ensures { result ≡ as_rows (rows_in owner.now channel.now p) }
 {
-    let mut rows = [0u8; 16];
-    let mut count: usize = 0;
-    let mut i = next_of(owner, p, 0);
-    while i < 512 {
-        if 16 <= count {
-            return Rows { count, rows };
-        }
-        rows[count] = channel[i];
-        count += 1;
-        i = next_of(owner, p, i + 1);
+    let mut found = Rows::none();
+    for i in records(owner, p).take(16) {
+        found.rows[found.count] = channel[i];
+        found.count += 1;
     }
-    Rows { count, rows }
+    found
 }
 
 // ---- room
@@ -230,28 +221,16 @@ pub fn has_room(owner: &[u8; 512], p: u8) -> bool
         return false;
     }
     let n = active_count(owner, p);
-    if n < 4 {
-        return true;
-    }
-    if 16 <= n {
-        return false;
-    }
-    extras_of(owner) < 256
+    n < 4 || n < 16 && extras_of(owner) < 256
 }
 
 // The flows of all ports beyond each one's fourth.
 pub fn extras_of(owner: &[u8; 512]) -> usize
     ensures { result ≡ extras_in owner.now }
 {
-    let counts = counts_of(owner);
     let mut e: usize = 0;
-    let mut p: usize = 0;
-    while p < 64 {
-        let n = counts[p] as usize;
-        if 4 < n {
-            e += n - 4;
-        }
-        p += 1;
+    for n in counts_of(owner) {
+        e += usize::from(n.saturating_sub(4));
     }
     e
 }
@@ -261,21 +240,13 @@ fn counts_of(owner: &[u8; 512]) -> [u16; 64]
     ensures { result ≡ map_to 64 (count_in owner.now) }
 {
     let mut counts = [0u16; 64];
-    let mut i: usize = 0;
-    while i < 512 {
-        let p = index(owner[i]);
+    for p in owner {
+        let p = usize::from(*p);
         if p < 64 {
-            counts[p] = counts[p] + 1;
+            counts[p] += 1;
         }
-        i += 1;
     }
     counts
-}
-
-fn index(x: u8) -> usize
-    ensures { result ≡ x }
-{
-    x as usize
 }
 
 // The first free record, or 512.
@@ -285,41 +256,13 @@ fn free_of(owner: &[u8; 512]) -> usize
     next_of(owner, FREE, 0)
 }
 
-// ---- from one of a port's records to the next
-
-// The port's first record from `from` on, or 512: records of others are passed over 64 at a time, then 16, then singly.
+// The port's first record from `from` on, or 512.
 fn next_of(owner: &[u8; 512], p: u8, from: usize) -> usize
     requires { from ≤ 512 }
     ensures { Next owner.now p from result }
 {
-    let mut i = from;
-    while i <= 448 && none_of(owner, p, i, 64) {
-        i += 64;
+    match memchr(p, &owner[from..]) {
+        Some(i) => from + i,
+        None => 512,
     }
-    while i <= 496 && none_of(owner, p, i, 16) {
-        i += 16;
-    }
-    while i < 512 {
-        if owner[i] == p {
-            return i;
-        }
-        i += 1;
-    }
-    i
-}
-
-// None of the n records from `at` on is the port's. There is no early end, so that the compiler compares 16 at once.
-fn none_of(owner: &[u8; 512], p: u8, at: usize, n: usize) -> bool
-    requires { at + n ≤ 512 }
-    ensures { result ≡ none_of n (λ i. is_of owner.now p (at + i)) }
-{
-    let mut none = true;
-    let mut i: usize = 0;
-    while i < n {
-        if owner[at + i] == p {
-            none = false;
-        }
-        i += 1;
-    }
-    none
 }

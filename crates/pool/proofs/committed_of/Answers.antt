@@ -1,16 +1,9 @@
-use Prim.Native.Nat.{ℕ, ◌+◌, ◌*◌, ◌≤◌, ◌-◌}
-use mathlib.Core.Path.{◌≡◌, sym, ◌∙◌}
-use mathlib.Core.Logic.{⊎_elim}
-use mathlib.Core.Bool.{Bool, true, false, cond}
-use mathlib.Core.List.{List}
-use native.Mathlib.Omega.{arith}
-use lib.ListN.{get_or}
+use Rattle.std.proofs.Common.{◌≡◌, ℕ, List, Bool, false, true, cond, get_or, length, sym, ap, ◌∙◌, arith}
 use Rattle.channels.specs.Channels.{rate_at}
-use Rattle.rows.proofs.Nexts.{next-stands}
-use Rattle.pool.proofs.Turns.{Stands, sum_before, sum-start, sum-mine, sum-none, sum_skip, sum_end}
-use borrow.Author.Rules.{rules}
+use Rattle.sums.specs.Sums.{sum_by}
+use Rattle.pool.proofs.Turns.{count_all}
+use Rattle.pool.proofs.Places.{records-mine, records-length, records-sum, turn-mine, turn-later, turn-sum, end-sum}
 use Rattle.pool.proofs.committed_of.Goals as goal
-use Rattle.pool.proofs.committed_of.Goals.{then-charged-i, else-charged-i}
 
 abbrev charge : List ℕ → List ℕ → List Bool → ℕ → ℕ
 charge table channel charged i = cond (get_or charged i false) (rate_at table (get_or channel i 0)) 0
@@ -18,36 +11,44 @@ charge table channel charged i = cond (get_or charged i false) (rate_at table (g
 pub loop-i-init : goal.loop-i-init
 loop-i-init c =
     let a = c.args in
-    let f = charge a.channels.now a.channel.now a.charged.now in
-    let x = c.next_of-i.ensures in
-    (next-stands x, omega arith, sum_skip a.owner.now a.p f 0 (sum-start a.owner.now a.p f) x)
+    let e = c.into_iter-i-iterator.ensures.into_iter_gives ∙ c.records-i-items.ensures in
+    let f = charge a.channels.now a.channel.now a.charged.now in (
+      records-mine a.owner.now a.p c.told-owner e,
+      omega (arith, ap length e, records-length a.owner.now a.p, count_all a.owner.now a.p),
+      omega (arith, ap (sum_by f) e, records-sum a.owner.now a.p f),
+    )
+
+pub bounds-charged-i : goal.bounds-charged-i
+bounds-charged-i c = (turn-mine c.in-Some.ensures.steps c.loop-i.invariant.0).0
 
 pub overflow_add-sum : goal.overflow_add-sum
-overflow_add-sum c = omega (arith, c.wide-sum.ensures.1)
+overflow_add-sum c = omega (arith, ap length c.in-Some.ensures.steps, c.from-sum.ensures)
+
+pub loop-i-preserved-then-charged-i : goal.loop-i-preserved-then-charged-i
+loop-i-preserved-then-charged-i c =
+    let a = c.args in
+    let s = c.in-Some.ensures.steps in
+    let f = charge a.channels.now a.channel.now a.charged.now in
+    let t : get_or a.charged.now c.in-Some.i false ≡ true = c.if-charged-i.true in
+    let x : f c.in-Some.i ≡ c.from-sum.result = simp t (sym (c.from-sum.ensures ∙ c.rate_at.ensures)) in (
+      turn-later s c.loop-i.invariant.0,
+      omega (arith, ap length s, c.from-sum.ensures),
+      omega (arith, turn-sum s f),
+    )
 
 pub loop-i-preserved : goal.loop-i-preserved
 loop-i-preserved c =
     let a = c.args in
-    let h = c.loop-i in
-    let i : ℕ = h.i in
-    let inv = h.invariant.2 in
+    let s = c.in-Some.ensures.steps in
     let f = charge a.channels.now a.channel.now a.charged.now in
-    let x = c.next_of-i-in-loop-i.ensures in
-    let far = x.reached in (
-      next-stands x,
-      elim c.if-charged-i.branch [ then-charged-i w ↦ omega (arith, far, w.wide-sum.ensures.1, w.sum-is) | else-charged-i w ↦ omega (arith, far, w.sum-is) ],
-      sum_skip a.owner.now a.p f (i + 1)
-          (elim c.if-charged-i.branch [
-            | then-charged-i w ↦ let t : get_or a.charged.now i false ≡ true = w.if-charged-i.true in
-                w.sum-is ∙ sum-mine a.owner.now a.p f i w.wide-sum.result inv (h.invariant.0.1 c.loop-i-test.true) (simp t (sym (w.wide-sum.ensures.0 ∙ w.rate_at.ensures)))
-            | else-charged-i w ↦ let t : get_or a.charged.now i false ≡ false = w.if-charged-i.false in
-                w.sum-is ∙ sum-none a.owner.now a.p f i inv (simp t)
-          ])
-          x,
+    let t : get_or a.charged.now c.in-Some.i false ≡ false = c.if-charged-i.false in
+    let x : f c.in-Some.i ≡ 0 = simp t in (
+      turn-later s c.loop-i.invariant.0,
+      omega (arith, ap length s),
+      omega (arith, turn-sum s f),
     )
 
 pub returns : goal.returns
 returns c =
     let a = c.args in
-    let h = c.loop-i in
-    sum_end a.owner.now a.p (charge a.channels.now a.channel.now a.charged.now) h.i h.invariant.2 h.invariant.0.0 c.loop-i-test.false
+    omega (arith, end-sum c.in-None.ensures.steps.0 (charge a.channels.now a.channel.now a.charged.now))

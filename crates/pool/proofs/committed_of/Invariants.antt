@@ -1,18 +1,11 @@
-use Prim.Native.Nat.{ℕ, ◌+◌, ◌*◌, ◌≤◌, ◌-◌}
-use mathlib.Core.Path.{◌≡◌, sym, ◌∙◌}
-use mathlib.Core.Logic.{⊎_elim}
-use mathlib.Core.Bool.{Bool, true, false, cond}
-use mathlib.Core.List.{List}
-use native.Mathlib.Omega.{arith}
-use lib.ListN.{get_or}
+use Rattle.std.proofs.Common.{◌≡◌, ◌+◌, ◌*◌, ◌≤◌, length, get_or, false, cond}
 use Rattle.channels.specs.Channels.{rate_at}
-use Rattle.rows.proofs.Nexts.{next-stands}
-use Rattle.pool.proofs.Turns.{Stands, sum_before, sum-start, sum-mine, sum-none, sum_skip, sum_end}
-use borrow.Author.Rules.{rules}
+use Rattle.sums.specs.Sums.{sum_by}
+use Rattle.pool.specs.Pool.{committed_in}
+use Rattle.pool.proofs.Places.{Left}
 use Rattle.pool.proofs.committed_of.Given as goal
 
 abbrev pub invariant-loop-i : goal.invariant-loop-i
-invariant-loop-i l = Stands l.owner l.p l.i × (l.sum ≤ l.i * 4294967295) × (l.sum ≡ sum_before l.owner l.p (λ j. cond (get_or l.charged j false) (rate_at l.channels (get_or l.channel j 0)) 0) l.i)
-
-abbrev pub decreases-loop-i : goal.decreases-loop-i
-decreases-loop-i l = 512 - l.i
+invariant-loop-i l =
+    Left l.owner l.p l.i-iterator × (l.sum + length l.i-iterator * 4294967295 ≤ 2199023255040)
+    × (l.sum + sum_by (λ i. cond (get_or l.charged i false) (rate_at l.channels (get_or l.channel i 0)) 0) l.i-iterator ≡ committed_in l.channels l.owner l.channel l.charged l.p)

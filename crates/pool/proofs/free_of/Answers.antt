@@ -1,5 +1,4 @@
 use Rattle.pool.proofs.Pools.{free_is}
-use borrow.Author.Rules.{rules}
 use Rattle.pool.proofs.free_of.Goals as goal
 
 pub returns : goal.returns

@@ -1,27 +1,40 @@
-use Prim.Native.Nat.{ℕ, ◌+◌, ◌≤◌, ◌-◌}
-use native.Mathlib.Omega.{arith}
-use Rattle.octets.specs.Writing.{Wrote}
-use Rattle.rows.proofs.Nexts.{next-stands}
-use Rattle.pool.proofs.Turns.{Stands}
-use Rattle.pool.proofs.Lists.{rows_before, zeros, rows_start, rows-mine, rows_skip, rows_all, rows_cut}
-use borrow.Author.Rules.{rules}
+use Rattle.std.proofs.Common.{ℕ, List, map, get_or, ap, ◌∙◌, arith}
+use Rattle.pool.proofs.Lists.{none-wrote, wrote-more, wrote_end}
+use Rattle.pool.proofs.Places.{records-mine, records-rows, turn-mine, turn-later}
 use Rattle.pool.proofs.rows_of.Goals as goal
+
+abbrev at : List ℕ → ℕ → ℕ
+at channel i = get_or channel i 0
 
 pub loop-i-init : goal.loop-i-init
 loop-i-init c =
     let a = c.args in
-    let x = c.next_of-i.ensures in
-    (next-stands x, search rules, rows_skip a.owner.now a.channel.now a.p 0 (rows_start a.owner.now a.channel.now a.p) x)
+    let e = ap (λ t. t.iter) c.into_iter-i-iterator.ensures.into_iter_gives ∙ c.take-i-items.ensures.source ∙ c.records.ensures in
+    let n = ap (λ t. t.n) c.into_iter-i-iterator.ensures.into_iter_gives ∙ c.take-i-items.ensures.count in
+    let none = none-wrote c.none-found.ensures in (
+      records-mine a.owner.now a.p c.told-owner e,
+      omega (arith, n, none.0),
+      none.1,
+      ap (map (at a.channel.now)) e ∙ records-rows a.owner.now a.p a.channel.now,
+    )
 
-pub returns-then-count-ge16 : goal.returns-then-count-ge16
-returns-then-count-ge16 c = let a = c.args in let h = c.loop-i in rows_cut a.owner.now a.channel.now a.p h.i h.invariant.2 h.invariant.0.0 (omega arith) c.if-count-ge16.true
+pub bounds-channel-i : goal.bounds-channel-i
+bounds-channel-i c = (turn-mine c.in-Some.ensures.steps.0 c.loop-i.invariant.0).0
+
+pub bounds-found-found : goal.bounds-found-found
+bounds-found-found c = omega (arith, c.loop-i.invariant.1, c.in-Some.ensures.steps.1)
 
 pub loop-i-preserved : goal.loop-i-preserved
 loop-i-preserved c =
     let a = c.args in
-    let h = c.loop-i in
-    let x = c.next_of-i-in-loop-i.ensures in
-    (next-stands x, omega (arith, c.if-count-ge16.false), rows_skip a.owner.now a.channel.now a.p (h.i + 1) (rows-mine a.owner.now a.channel.now a.p h.i h.invariant.2 c.if-count-ge16.false (h.invariant.0.1 c.loop-i-test.true)) x)
+    let inv = c.loop-i.invariant in
+    let s = c.in-Some.ensures.steps in
+    let more = wrote-more (at a.channel.now) c.loop-i.yielded c.in-Some.i s.0 inv.2 inv.3 (omega (arith, inv.1, s.1)) in
+    (turn-later s.0 inv.0, omega (arith, inv.1, s.1), more.0, more.1)
 
 pub returns : goal.returns
-returns c = let a = c.args in let h = c.loop-i in rows_all a.owner.now a.channel.now a.p h.i h.invariant.2 h.invariant.0.0 c.loop-i-test.false (omega arith)
+returns c =
+    let a = c.args in
+    let inv = c.loop-i.invariant in
+    let left = c.loop-i.i-iterator in
+    wrote_end inv.2 _ (map (at a.channel.now) left.iter) left.n inv.3 inv.1 (λ l. ap (map (at a.channel.now)) (c.in-None.ensures.steps l).0)

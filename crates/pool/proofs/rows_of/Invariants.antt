@@ -1,14 +1,12 @@
-use Prim.Native.Nat.{ℕ, ◌+◌, ◌≤◌, ◌-◌}
-use native.Mathlib.Omega.{arith}
+use Rattle.std.proofs.Common.{◌≡◌, ◌+◌, ◌++◌, map, get_or}
 use Rattle.octets.specs.Writing.{Wrote}
-use Rattle.rows.proofs.Nexts.{next-stands}
-use Rattle.pool.proofs.Turns.{Stands}
-use Rattle.pool.proofs.Lists.{rows_before, zeros, rows_start, rows-mine, rows_skip, rows_all, rows_cut}
-use borrow.Author.Rules.{rules}
+use Rattle.pool.specs.Pool.{rows_in}
+use Rattle.pool.proofs.Lists.{zeros}
+use Rattle.pool.proofs.Places.{Left}
 use Rattle.pool.proofs.rows_of.Given as goal
 
 abbrev pub invariant-loop-i : goal.invariant-loop-i
-invariant-loop-i l = Stands l.owner l.p l.i × (l.count ≤ 16) × Wrote (rows_before l.owner l.channel l.p l.i) l.count zeros l.rows
-
-abbrev pub decreases-loop-i : goal.decreases-loop-i
-decreases-loop-i l = 512 - l.i
+invariant-loop-i l =
+    Left l.owner l.p l.i-iterator.iter × (l.found.count + l.i-iterator.n ≡ 16)
+    × Wrote (map (λ i. get_or l.channel i 0) l.yielded) l.found.count zeros l.found.rows
+    × (map (λ i. get_or l.channel i 0) l.yielded ++ map (λ i. get_or l.channel i 0) l.i-iterator.iter ≡ rows_in l.owner l.channel l.p)
