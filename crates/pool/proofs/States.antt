@@ -1,20 +1,19 @@
 -- What a port's flow has: the flow is active where a record is found (state_active).
 -- Assumes nothing.
 use Rattle.std.specs.Prelude.{Option, Some, None}
-use Prim.Native.Nat.{ℕ, ◌+◌, ◌-◌, ◌≤◌, ◌<◌}
-use mathlib.Core.Path.{◌≡◌, refl, sym, ◌∙◌}
+use Prim.Native.Nat.{ℕ, ◌<◌}
+use mathlib.Core.Path.{◌≡◌, refl, sym}
 use mathlib.Core.Bool.{Bool, true, false, cond, ◌&&◌, false≢true}
 use mathlib.Core.List.{List}
 use native.Mathlib.Omega.{arith}
 use lib.ListN.{get_or}
 use lib.Dec.{eqb}
-use borrow.Author.Tests.{eq-eqb, ne_eqb, eqb-true, lt-ltb, le-ltb}
+use borrow.Author.Tests.{eqb-true, lt-ltb, le-ltb}
 use Rattle.octets.proofs.Tests.{both}
-use Rattle.rows.specs.Rows.{first_from, first_row}
-use Rattle.rows.proofs.Rows.{first-start, first-here, first_on, first_end, found_at, found_none}
-use Rattle.rows.proofs.Nexts.{kept-over}
+use Rattle.rows.specs.Rows.{first_row}
+use Rattle.rows.proofs.Rows.{found_at, found_none}
 use Rattle.sums.proofs.Sums.{sum_to-none}
-use Rattle.pool.specs.Pool.{is_of, Next, sum_over, is_held, holds_in, active_in, state_at, state_in}
+use Rattle.pool.specs.Pool.{is_of, sum_over, is_held, holds_in, active_in, state_at, state_in}
 use Rattle.pool.proofs.Turns.{sum-at}
 
 module _ (owner channel : List ℕ) (p k : ℕ) where
