@@ -4,7 +4,7 @@
 --     all_at, all_by, all_on, all_off   all rows pass: each does
 --     none-at, nothing-none             none passes: each fails, and a search finds nothing
 --     alone                             where each row is none of those before it, rows that are the same are one row
---     rows-many, rows-off, rows_end, rows_at    a table of at most so many rows, each of which passes
+--     rows-many, rows-off, rows-by, rows_at     a table of at most so many rows, each of which passes
 -- Assumes nothing.
 use Rattle.std.specs.Prelude.{is_none, Option, Some, None, is_some}
 use Prim.Native.Nat.{ℕ, zero, suc, ◌+◌, ◌-◌, ◌≤◌, ◌<◌}
@@ -16,7 +16,7 @@ use native.Mathlib.Nat.{eq-or-lt_of_le, le_of_suc-le-suc}
 use native.Mathlib.Omega.{arith}
 use mathlib.Core.List.{[], ◌∷◌}
 use lib.Dec.{leb, ltb}
-use borrow.Author.Tests.{not-true, ltb-true, ltb-false, le-leb, lt-leb, leb-true}
+use borrow.Author.Tests.{not-true, ltb-true, ltb-false, le-leb, lt-leb, leb-true, leb-false}
 use Rattle.octets.specs.Tests.{every}
 use Rattle.octets.proofs.Tests.{both, each, every-by, false_by}
 use Rattle.rows.specs.Rows.{first_from, first_row, all_of, none_of, rows_ok}
@@ -172,11 +172,18 @@ module _ (most n : ℕ) (test : ℕ → Bool) where
   rows-off i l t =
       false_by (rows_ok most n test) (λ e. false≢true (sym t ∙ all_at n test (each (leb n most ∷ all_of n test ∷ []) e).1.0 i l))
 
-  pub rows_end : (i : ℕ) → n ≤ most → n ≤ i → i ≤ n → all_of i test ≡ true → true ≡ rows_ok most n test
+  -- a test of each row that stops at the first that fails
+  pub rows-by : (r : Bool) → (r ≡ true → (n ≤ most) × ((i : ℕ) → i < n → true ≡ test i)) → (r ≡ false → n ≤ most → (i : ℕ) × (i < n) × (false ≡ test i))
+      → r ≡ rows_ok most n test
   unfolding rows_ok
-  rows_end i h l m t =
-      let e : i ≡ n = omega arith in
-      sym (every-by (leb n most ∷ all_of n test ∷ []) (le-leb n most h, (ap (λ (k : ℕ). all_of k test) (sym e) ∙ t, tt)))
+  rows-by true h f =
+      let t = h refl in
+      sym (every-by (leb n most ∷ all_of n test ∷ []) (le-leb n most t.0, (all_by n test (λ i l. sym (t.1 i l)), tt)))
+  rows-by false h f = go (leb n most) refl
+    where
+      go : (b : Bool) → leb n most ≡ b → false ≡ rows_ok most n test
+      go true e = let w = f refl (leb-true n most e) in rows-off w.0 w.1 (sym w.2)
+      go false e = rows-many (leb-false n most e)
 
   pub rows_at : rows_ok most n test ≡ true → (n ≤ most) × ((i : ℕ) → i < n → test i ≡ true)
   unfolding rows_ok

@@ -1,6 +1,6 @@
 #![tactic(auto)]
 
-// Rows of a table: which is the first of its kind.
+// Rows of a table: which is the first of its kind, and whether each passes a test.
 ghost use Rattle.std.specs.Prelude.{◌≡◌, ◌≤◌, ◌<◌, ◌+◌, ◌^◌, ℕ, true, false};
 ghost use Rattle.rows.specs.Rows.{NextRow};
 
@@ -37,4 +37,21 @@ fn none_of<F: Fn(usize) -> bool>(passes: &F, at: usize, n: usize) -> bool
         none &= !passes(i);
     }
     none
+}
+
+// A table of n rows has at most so many, and each passes the test.
+pub fn rows_ok<F: Fn(usize) -> bool>(most: usize, n: usize, passes: F) -> bool
+    requires { n ≤ most → (i : ℕ) → i < n → F.pre passes i }
+    ensures each { result ≡ true → (n ≤ most) × ((i : ℕ) → i < n → F.post passes i true) }
+    ensures one { result ≡ false → n ≤ most → (i : ℕ) × (i < n) × F.post passes i false }
+{
+    if most < n {
+        return false;
+    }
+    for row in 0..n {
+        if !passes(row) {
+            return false;
+        }
+    }
+    true
 }

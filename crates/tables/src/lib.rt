@@ -10,6 +10,7 @@ use channels::{channel_at, channel_of, rate_at};
 use circuits::{id_at, port_of};
 use flows::{good_flow, known_family, width};
 use lists::{Entry, entry_at};
+use rows::rows_ok;
 
 pub fn tables_ok(
     ids: &[u8; 4096],
@@ -21,13 +22,7 @@ pub fn tables_ok(
 ) -> bool
     ensures { result ≡ tables_ok ids.now ports channels.now channel_count entries.now entry_count }
 {
-    if !ids_ok(ids, ports) {
-        return false;
-    }
-    if !channels_ok(channels, channel_count) {
-        return false;
-    }
-    entries_ok(entries, entry_count)
+    ids_ok(ids, ports) && channels_ok(channels, channel_count) && entries_ok(entries, entry_count)
 }
 
 // ---- circuit ids
@@ -35,17 +30,7 @@ pub fn tables_ok(
 fn ids_ok(ids: &[u8; 4096], n: usize) -> bool
     ensures { result ≡ rows_ok 64 n (id_ok ids.now) }
 {
-    if 64 < n {
-        return false;
-    }
-    let mut i: usize = 0;
-    while i < n {
-        if !id_ok(ids, i as u8) {
-            return false;
-        }
-        i += 1;
-    }
-    true
+    rows_ok(64, n, |p| id_ok(ids, p as u8))
 }
 
 fn id_ok(ids: &[u8; 4096], p: u8) -> bool
@@ -53,13 +38,7 @@ fn id_ok(ids: &[u8; 4096], p: u8) -> bool
     ensures { result ≡ id_ok ids.now p }
 {
     let length = ids[(p as usize) * 64];
-    if length < 1 {
-        return false;
-    }
-    if 63 < length {
-        return false;
-    }
-    port_of(ids, p as usize, id_at(ids, p)).is_none()
+    1 <= length && length <= 63 && port_of(ids, p as usize, id_at(ids, p)).is_none()
 }
 
 // ---- channels
@@ -67,34 +46,15 @@ fn id_ok(ids: &[u8; 4096], p: u8) -> bool
 fn channels_ok(channels: &[u32; 2816], n: usize) -> bool
     ensures { result ≡ rows_ok 256 n (channel_ok channels.now) }
 {
-    if 256 < n {
-        return false;
-    }
-    let mut i: usize = 0;
-    while i < n {
-        if !channel_ok(channels, i as u8) {
-            return false;
-        }
-        i += 1;
-    }
-    true
+    rows_ok(256, n, |i| channel_ok(channels, i as u8))
 }
 
 fn channel_ok(channels: &[u32; 2816], i: u8) -> bool
     ensures { result ≡ channel_ok channels.now i }
 {
     let rate = rate_at(channels, i);
-    if rate < 1 {
-        return false;
-    }
-    if 10000000 < rate {
-        return false;
-    }
     let f = channel_at(channels, i);
-    if !good_flow(f) {
-        return false;
-    }
-    channel_of(channels, i as usize, f).is_none()
+    1 <= rate && rate <= 10000000 && good_flow(f) && channel_of(channels, i as usize, f).is_none()
 }
 
 // ---- list entries
@@ -102,41 +62,22 @@ fn channel_ok(channels: &[u32; 2816], i: u8) -> bool
 fn entries_ok(entries: &[u32; 1536], n: usize) -> bool
     ensures { result ≡ rows_ok 128 n (entry_ok_at entries.now) }
 {
-    if 128 < n {
-        return false;
-    }
-    let mut i: usize = 0;
-    while i < n {
-        if !entry_ok(entry_at(entries, i)) {
-            return false;
-        }
-        i += 1;
-    }
-    true
+    rows_ok(128, n, |i| entry_ok(entry_at(entries, i)))
 }
 
 fn entry_ok(e: Entry) -> bool
     ensures { result ≡ entry_ok e }
 {
-    if !known_family(e.family) {
-        return false;
-    }
-    if !known_list(e.list) {
-        return false;
-    }
-    if !within_address(e.family, e.group_length) {
-        return false;
-    }
-    within_address(e.family, e.source_length)
+    known_family(e.family)
+        && known_list(e.list)
+        && within_address(e.family, e.group_length)
+        && within_address(e.family, e.source_length)
 }
 
 pub fn known_list(list: u32) -> bool
     ensures { result ≡ known_list list }
 {
-    if list < 1 {
-        return false;
-    }
-    list <= 3
+    1 <= list && list <= 3
 }
 
 // A prefix is no longer than an address of the family.

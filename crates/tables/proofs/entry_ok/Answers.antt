@@ -1,21 +1,14 @@
-use mathlib.Core.Path.{sym, ◌∙◌}
-use mathlib.Core.Bool.{and-true}
+use Rattle.std.proofs.Common.{rules}
 use Rattle.octets.specs.Tests.{every}
 use Rattle.tables.specs.Tables.{entry_ok}
 use Rattle.tables.proofs.entry_ok.Goals as goal
 
-pub returns-then-not-known_family : goal.returns-then-not-known_family
+pub returns-then-within_address : goal.returns-then-within_address
 unfolding entry_ok every
-returns-then-not-known_family c = simp (sym c.known_family.ensures ∙ c.if-not-known_family.true)
+returns-then-within_address c =
+    search rules
 
-pub returns-then-not-known_list : goal.returns-then-not-known_list
+pub returns-else-within_address : goal.returns-else-within_address
 unfolding entry_ok every
-returns-then-not-known_list c = simp (sym c.known_family.ensures ∙ c.if-not-known_family.false, sym c.known_list.ensures ∙ c.if-not-known_list.true)
-
-pub returns-then-not-within_address : goal.returns-then-not-within_address
-unfolding entry_ok every
-returns-then-not-within_address c = simp (sym c.known_family.ensures ∙ c.if-not-known_family.false, sym c.known_list.ensures ∙ c.if-not-known_list.false, sym c.within_address.ensures ∙ c.if-not-within_address.true)
-
-pub returns : goal.returns
-unfolding entry_ok every
-returns c = simp (sym c.known_family.ensures ∙ c.if-not-known_family.false, sym c.known_list.ensures ∙ c.if-not-known_list.false, sym c.within_address.ensures ∙ c.if-not-within_address.false, and-true) c.within_address-2.ensures
+returns-else-within_address c =
+    search rules
