@@ -1,12 +1,11 @@
 -- How many octets the parts of the messages take. Assumes nothing.
-use mathlib.Core.Path.{◌≡◌, ap, ◌∙◌}
-use mathlib.Core.List.{List, ◌++◌}
+use mathlib.Core.Path.{◌≡◌}
+use mathlib.Core.List.{List}
 use Prim.Native.Nat.{ℕ, ◌+◌, ◌*◌, ◌%◌, ◌≤◌}
 use native.Mathlib.Omega.{arith}
 use mathlib.Core.Bool.{Bool, true, false, cond}
 use lib.Dec.{eqb}
 use lib.ListN.{length, take, length-take}
-use Rattle.octets.specs.Numbers.{padded}
 use Rattle.flows.specs.Words.{octets_of}
 use Rattle.flows.specs.Flows.{width}
 use Rattle.flows.specs.declared.Flow.{Flow}

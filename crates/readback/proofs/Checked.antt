@@ -1,14 +1,13 @@
 -- What the card writes passes the check of lengths and depth. Assumes nothing.
 use mathlib.Core.Path.{◌≡◌, refl, sym, ap, ◌∙◌}
 use mathlib.Core.List.{List, [], ◌++◌, append-nil}
-use mathlib.Core.Bool.{Bool, true, false, cond, ◌&&◌}
-use Prim.Native.Nat.{ℕ, zero, suc, ◌+◌}
+use mathlib.Core.Bool.{Bool, true, false}
+use Prim.Native.Nat.{ℕ, zero, suc}
 use native.Mathlib.Omega.{arith}
-use lib.ListN.{length, drop, length-append}
-use lib.Dec.{eqb, leb}
-use borrow.Author.Tests.{le-leb, ne_eqb}
-use Rattle.octets.specs.Numbers.{be16, oct8, oct16, oct32, padded}
-use Rattle.tlv.specs.declared.Inside.TheVariants.{Plain, Holds}
+use lib.ListN.{length, length-append}
+use lib.Dec.{leb}
+use borrow.Author.Tests.{le-leb}
+use Rattle.octets.specs.Numbers.{oct8, oct16}
 use Rattle.tlv.specs.Depth.{status_inside, inside_of, held_ok, inside_ok, list_ok}
 use Rattle.tlv.proofs.Firsts.{first_end}
 use Rattle.tlv.proofs.Depth.{all_end, inside_bare, list_deeper}

@@ -1,15 +1,14 @@
 -- A message that is written reads back. Assumes nothing.
-use mathlib.Core.Path.{◌≡◌, refl, sym, ap, ◌∙◌}
-use mathlib.Core.List.{List, ◌++◌}
+use mathlib.Core.Path.{◌≡◌}
+use mathlib.Core.List.{List}
 use mathlib.Core.Bool.{true}
-use Prim.Native.Nat.{ℕ, ◌+◌, ◌-◌, ◌%◌, ◌/◌, ◌*◌, ◌<◌}
+use Prim.Native.Nat.{ℕ, ◌%◌, ◌/◌, ◌<◌}
 use native.Mathlib.Omega.{arith}
 use lib.ListN.{length, drop}
 use lib.Seq.{drop_at}
 use borrow.Author.Tests.{le-leb, eq-eqb}
 use Rattle.octets.specs.Numbers.{be16, be24, oct8, oct16, oct24}
 use Rattle.octets.proofs.Tests.{every-by}
-use Rattle.header.specs.Bits.{result_and_code}
 use Rattle.header.specs.declared.Header.{Header}
 use Rattle.header.specs.Header.{usable, header_in, header_of, message_of}
 use Rattle.header.proofs.Messages.{length_header, length-message}

@@ -1,12 +1,11 @@
-use mathlib.Core.Path.{◌≡◌, refl, sym, ap, ◌∙◌}
+use mathlib.Core.Path.{ap, ◌∙◌}
 use mathlib.Core.List.{List, ◌++◌}
-use Prim.Native.Nat.{ℕ, ◌+◌}
+use Prim.Native.Nat.{ℕ}
 use native.Mathlib.Omega.{arith}
-use lib.ListN.{length}
 use Rattle.octets.specs.Writing.{over}
 use Rattle.octets.proofs.Writing.{lent-before}
 use Rattle.writers.specs.Tlvs.{command_of}
-use Rattle.writers.specs.Heads.{head_of, command_head}
+use Rattle.writers.specs.Heads.{command_head}
 use Rattle.writers.proofs.Tlvs.{length-head, holder_parts}
 use Rattle.flow_octets.specs.FlowOctets.{flow_tlv}
 use Rattle.begun.proofs.Sizes.{sized, length-add}

@@ -1,8 +1,7 @@
-use mathlib.Core.Path.{◌≡◌, sym, ◌∙◌}
 use mathlib.Core.List.{List, ◌++◌}
-use Prim.Native.Nat.{ℕ, ◌+◌}
+use Prim.Native.Nat.{ℕ}
 use native.Mathlib.Omega.{arith}
-use lib.ListN.{length, length-append}
+use lib.ListN.{length-append}
 use Rattle.header.proofs.Messages.{message-by, length-message}
 use Rattle.writers.specs.Tlvs.{target_of, command_of}
 use Rattle.writers.proofs.Tlvs.{length-target}
@@ -10,7 +9,6 @@ use Rattle.flow_octets.specs.FlowOctets.{flow_tlv}
 use Rattle.replies.specs.Replies.{begin_header}
 use Rattle.begun.specs.Begun.{admission_of}
 use Rattle.begun.proofs.Sizes.{sized, length-add}
-use borrow.Author.Rules.{rules}
 use Rattle.begun.proofs.put_admission.Goals as goal
 
 pub put_header-requires : goal.put_header-requires

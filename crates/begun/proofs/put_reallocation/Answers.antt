@@ -1,14 +1,12 @@
-use mathlib.Core.Path.{◌≡◌, sym, ◌∙◌}
 use mathlib.Core.List.{List, ◌++◌}
-use Prim.Native.Nat.{ℕ, ◌+◌}
+use Prim.Native.Nat.{ℕ}
 use native.Mathlib.Omega.{arith}
-use lib.ListN.{length, length-append}
+use lib.ListN.{length-append}
 use Rattle.header.proofs.Messages.{message-by, length-message}
 use Rattle.writers.specs.Tlvs.{target_of, request_of}
 use Rattle.writers.proofs.Tlvs.{length-target, length-request}
 use Rattle.replies.specs.Replies.{begin_header}
 use Rattle.begun.specs.Begun.{reallocation_of}
-use borrow.Author.Rules.{rules}
 use Rattle.begun.proofs.put_reallocation.Goals as goal
 
 pub put_header-requires : goal.put_header-requires

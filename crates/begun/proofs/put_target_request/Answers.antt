@@ -1,10 +1,9 @@
-use mathlib.Core.Path.{◌≡◌, sym, ◌∙◌}
+use mathlib.Core.Path.{sym}
 use native.Mathlib.Omega.{arith}
 use lib.ListN.{length-drop, length-append}
 use Rattle.octets.proofs.Parts.{rest_part}
 use Rattle.octets.proofs.Writing.{lent-after}
 use Rattle.writers.proofs.Tlvs.{length-target, length-request}
-use borrow.Author.Rules.{rules}
 use Rattle.begun.proofs.put_target_request.Goals as goal
 
 pub slice_bounds-put_request-count : goal.slice_bounds-put_request-count

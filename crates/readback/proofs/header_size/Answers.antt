@@ -1,7 +1,6 @@
 use mathlib.Core.Path.{refl}
 use Rattle.readback.proofs.Fields.{read_back}
 use Rattle.readback.proofs.Checked.{passes}
-use borrow.Author.Rules.{rules}
 use Rattle.readback.proofs.header_size.Goals as goal
 
 pub returns : goal.returns
