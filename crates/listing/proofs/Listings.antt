@@ -39,7 +39,7 @@ module _ (rs : List ℕ) {found : Rows} (e : found ≡ as_rows rs) where
   unfolding as_rows
   found_few = omega (arith, ap (λ (d : Rows). d.count) e, length-take 16 rs)
 
-  found_rows : take found.count found.rows ≡ take 16 rs
+  pub found_rows : take found.count found.rows ≡ take 16 rs
   unfolding as_rows
   found_rows = over_front (take 16 rs) (replicate 16 0) found.count (ap (λ (d : Rows). d.rows) e) (ap (λ (d : Rows). d.count) e)
 
@@ -91,31 +91,29 @@ module _ (before : ℕ → ℕ → Bool) where
           ∙ ap (λ (v : List ℕ). over v (replicate 16 0)) (sym all) in
           ap₂ (λ (a : ℕ) (b : List ℕ). record { count = a; rows = b }) n l
 
-  -- the first i of the rows that were found stand in order
-  module _ (rs : List ℕ) {found : Rows} (e : found ≡ as_rows rs) (i : ℕ) {done : Rows} (inv : done ≡ as_rows (in_order before (take i found.rows))) where
-    module _ (h : i < found.count) where
-      length_so : length (in_order before (take i found.rows)) ≡ i
-      length_so = in_order_length (take i found.rows) ∙ length-take-le i found.rows (omega (arith, found_few rs e, found_long rs e))
+  -- the first i of some rows stand in order
+  module _ (ks : List ℕ) (few : length ks ≤ 16) (i : ℕ) {done : Rows} (inv : done ≡ as_rows (in_order before (take i ks))) where
+    module _ (h : i < length ks) where
+      length_so : length (in_order before (take i ks)) ≡ i
+      length_so = in_order_length (take i ks) ∙ length-take-le i ks (omega arith)
 
       pub ordered_room : done.count < 16
       unfolding as_rows
-      ordered_room = omega (arith, ap (λ (d : Rows). d.count) inv, length_so, found_few rs e, length-take 16 (in_order before (take i found.rows)))
+      ordered_room = omega (arith, ap (λ (d : Rows). d.count) inv, length_so, length-take 16 (in_order before (take i ks)))
 
-      next : placed before (get_or found.rows i 0) (in_order before (take i found.rows)) ≡ in_order before (take (i + 1) found.rows)
+      next : placed before (get_or ks i 0) (in_order before (take i ks)) ≡ in_order before (take (i + 1) ks)
       unfolding in_order
       next =
-          sym (all_more [] (take i found.rows) (get_or found.rows i 0))
-          ∙ ap (placed_all before []) (sym (take-suc found.rows i 0 (omega (arith, found_few rs e, found_long rs e))))
-          ∙ ap (λ (m : ℕ). placed_all before [] (take m found.rows)) (sym (add-one i))
+          sym (all_more [] (take i ks) (get_or ks i 0))
+          ∙ ap (placed_all before []) (sym (take-suc ks i 0 h))
+          ∙ ap (λ (m : ℕ). placed_all before [] (take m ks)) (sym (add-one i))
 
-      pub ordered-turn : {r : Rows} → r.count ≡ done.count + 1 → r.rows ≡ over (placed before (get_or found.rows i 0) (take done.count done.rows)) done.rows
-          → r ≡ as_rows (in_order before (take (i + 1) found.rows))
-      ordered-turn c t = listed_more (in_order before (take i found.rows)) (get_or found.rows i 0) inv (omega (arith, length_so, found_few rs e)) c t ∙ ap as_rows next
+      pub ordered-turn : {r : Rows} → r.count ≡ done.count + 1 → r.rows ≡ over (placed before (get_or ks i 0) (take done.count done.rows)) done.rows
+          → r ≡ as_rows (in_order before (take (i + 1) ks))
+      ordered-turn c t = listed_more (in_order before (take i ks)) (get_or ks i 0) inv (omega (arith, length_so)) c t ∙ ap as_rows next
 
-    pub ordered_end : i ≤ found.count → found.count ≤ i → done ≡ as_rows (in_order before (take 16 rs))
-    ordered_end l m =
-        let z : i ≡ found.count = omega arith in
-        inv ∙ ap (λ (n : ℕ). as_rows (in_order before (take n found.rows))) z ∙ ap (λ (ks : List ℕ). as_rows (in_order before ks)) (found_rows rs e)
+    pub ordered_end : length ks ≤ i → done ≡ as_rows (in_order before ks)
+    ordered_end h = inv ∙ ap (λ (l : List ℕ). as_rows (in_order before l)) (take_all i ks h)
 
 -- nothing of a port's rows in order is cut when they are listed
 pub rows-listed : (channels : List ℕ) (pool : Pool) (p : ℕ) {r : Rows} → r ≡ as_rows (rows_in_order channels pool p) → take r.count r.rows ≡ rows_in_order channels pool p

@@ -19,17 +19,14 @@ pub fn rows_in_order<'a>(
     ensures order { Listed channels.now (take 16 (rows_in owner.now channel.now p)) }
 {
     let found = pool::rows_of(owner, channel, p);
-    let n = found.count;
-    let rows = found.rows;
     let mut done = no_rows();
-    let mut i: usize = 0;
-    while i < n {
-        done = place(channels, done, rows[i]);
-        i += 1;
+    for k in &found.rows[..found.count] {
+        done = place(channels, done, *k);
     }
     done
 }
 
+#[tactic(auto, unfolding(pool::specs::Pool::as_rows, octets::specs::Writing::over))]
 fn no_rows() -> Rows
     ensures { result ≡ as_rows [] }
 {
@@ -48,14 +45,12 @@ fn place(channels: &[u32; 2816], done: Rows, k: u8) -> Rows
     let n = done.count;
     let mut rows = done.rows;
     let mut carried = k;
-    let mut i: usize = 0;
-    while i < n {
+    for i in 0..n {
         let j = rows[i];
         if row_before(channels, carried, j) {
             rows[i] = carried;
             carried = j;
         }
-        i += 1;
     }
     rows[n] = carried;
     Rows { count: n + 1, rows }

@@ -1,31 +1,43 @@
-use native.Mathlib.Omega.{arith}
-use mathlib.Core.Path.{◌≡◌, ◌∙◌}
+use mathlib.Core.Path.{ap, ◌∙◌}
 use mathlib.Core.List.{List}
-use Prim.Native.Nat.{ℕ, ◌≤◌, ◌-◌}
-use lib.ListN.{take}
+use Prim.Native.Nat.{ℕ}
+use native.Mathlib.Omega.{arith}
+use lib.ListN.{take, length-take}
 use Rattle.pool.specs.Pool.{rows_in, as_rows}
 use Rattle.listing.specs.Listing.{row_before, in_order, rows_in_order}
-use Rattle.listing.proofs.Listings.{ordered-start, ordered_room, ordered-turn, ordered_end, found_few}
+use Rattle.listing.proofs.Listings.{ordered-start, ordered_room, ordered-turn, ordered_end, found_few, found_rows}
 use Rattle.listing.proofs.Ordering.{listed_by}
-use borrow.Author.Rules.{rules}
 use Rattle.listing.proofs.rows_in_order.Goals as goal
 
-pub loop-i-init : goal.loop-i-init
-loop-i-init c = (search rules, c.no_rows-done.ensures ∙ ordered-start (row_before c.args.channels.now) c.rows_of-found.result.rows)
+pub shared_ref_as_front-k-items : goal.shared_ref_as_front-k-items
+shared_ref_as_front-k-items c = found_few (rows_in c.args.owner.now c.args.channel.now c.args.p) c.rows_of-found.ensures
 
-pub bounds-rows-i : goal.bounds-rows-i
-bounds-rows-i c =
-    let held : List ℕ = rows_in c.args.owner.now c.args.channel.now c.args.p in omega (arith, found_few held c.rows_of-found.ensures)
+pub loop-k-init : goal.loop-k-init
+loop-k-init c = c.no_rows-done.ensures ∙ ordered-start (row_before c.args.channels.now) c.rows_of-found.result.rows
 
 pub place-done-requires : goal.place-done-requires
 place-done-requires c =
-    let held : List ℕ = rows_in c.args.owner.now c.args.channel.now c.args.p in ordered_room (row_before c.args.channels.now) held c.rows_of-found.ensures c.loop-i.i c.loop-i.invariant.1 c.loop-i-test.true
+    let found = c.rows_of-found.result in
+    let few = found_few (rows_in c.args.owner.now c.args.channel.now c.args.p) c.rows_of-found.ensures in
+    ordered_room (row_before c.args.channels.now) (take found.count found.rows) (omega (arith, few, length-take found.count found.rows)) c.loop-k.k-index c.loop-k.invariant c.loop-k-test.true
 
-pub loop-i-preserved : goal.loop-i-preserved
-loop-i-preserved c =
-    let held : List ℕ = rows_in c.args.owner.now c.args.channel.now c.args.p in (omega arith, ordered-turn (row_before c.args.channels.now) held c.rows_of-found.ensures c.loop-i.i c.loop-i.invariant.1 c.loop-i-test.true c.place-done.ensures.count c.place-done.ensures.rows)
+pub loop-k-preserved : goal.loop-k-preserved
+loop-k-preserved c =
+    let found = c.rows_of-found.result in
+    let few = found_few (rows_in c.args.owner.now c.args.channel.now c.args.p) c.rows_of-found.ensures in
+    ordered-turn (row_before c.args.channels.now) (take found.count found.rows) (omega (arith, few, length-take found.count found.rows)) c.loop-k.k-index c.loop-k.invariant c.loop-k-test.true
+    c.place-done.ensures.count c.place-done.ensures.rows
 
 pub returns : goal.returns
 unfolding rows_in_order
 returns c =
-    let held : List ℕ = rows_in c.args.owner.now c.args.channel.now c.args.p in let a = c.args in record { rows = λ charged accounting. ordered_end (row_before a.channels.now) held c.rows_of-found.ensures c.loop-i.i c.loop-i.invariant.1 c.loop-i.invariant.0 c.loop-i-test.false; order = listed_by a.channels.now (take 16 held) }
+    let found = c.rows_of-found.result in
+    let held = rows_in c.args.owner.now c.args.channel.now c.args.p in
+    let few = found_few held c.rows_of-found.ensures in
+    let before = row_before c.args.channels.now in
+    record {
+      rows = λ charged accounting.
+          ordered_end before (take found.count found.rows) (omega (arith, few, length-take found.count found.rows)) c.loop-k.k-index c.loop-k.invariant c.loop-k-test.false
+          ∙ ap (λ (ks : List ℕ). as_rows (in_order before ks)) (found_rows held c.rows_of-found.ensures);
+      order = listed_by c.args.channels.now (take 16 held);
+    }
