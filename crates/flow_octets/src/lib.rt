@@ -17,22 +17,17 @@ pub fn flow_formed(c: &[u8]) -> bool
     ensures { result ≡ flow_formed c.now }
 {
     let f = fields::flow_in(c);
-    if !type_ok(f.kind, f.count) {
-        return false;
-    }
-    f.agrees
+    type_ok(f.kind, f.count) && f.agrees
 }
 
 fn type_ok(kind: u8, count: u16) -> bool
     ensures { result ≡ type_ok kind count }
 {
-    if kind == 1 {
-        return count == 0;
+    match kind {
+        1 => count == 0,
+        2 => count == 1,
+        _ => false,
     }
-    if kind == 2 {
-        return count == 1;
-    }
-    false
 }
 
 pub fn flow_named(c: &[u8]) -> Flow
@@ -45,10 +40,10 @@ pub fn flow_named(c: &[u8]) -> Flow
     let group = address_in(c, 4, w);
     let source = address_in(c, 4 + 4 * w, w * (count as usize));
     Flow {
-        family: family,
+        family,
         sourced: count as u32,
-        group: group,
-        source: source,
+        group,
+        source,
     }
 }
 
@@ -68,10 +63,7 @@ fn word_in(c: &[u8], at: usize, words: usize, i: usize) -> u32
     requires { (words ≤ 4) × (at + 4 * words ≤ length c.now) }
     ensures { result ≡ word_in c.now at words i }
 {
-    if i < words {
-        return read32(c, at + 4 * i);
-    }
-    0
+    if i < words { read32(c, at + 4 * i) } else { 0 }
 }
 
 // ---- writing
@@ -82,13 +74,11 @@ pub fn put_flow(buf: &mut [u8], f: Flow) -> usize
     ensures written { Wrote (flow_tlv f) result buf.old buf.new }
     ensures back { good_flow f ≡ true → FlowBack f }
 {
-    let group = f.group;
-    let source = f.source;
     let count = source_count(f.sourced);
     let mut g = [0u8; 16];
     let mut s = [0u8; 16];
-    let a = put_words(&mut g, group, width(f.family));
-    let b = put_words(&mut s, source, source_words(f.family, f.sourced));
+    let a = put_words(&mut g, f.group, width(f.family));
+    let b = put_words(&mut s, f.source, source_words(f.family, f.sourced));
     writers::put_flow(
         buf,
         (count + 1) as u8,
@@ -110,10 +100,7 @@ fn source_words(family: u32, sourced: u32) -> usize
     ensures value { result ≡ source_words family sourced }
     ensures upper_bound { result ≤ 4 }
 {
-    if sourced == 0 {
-        return 0;
-    }
-    width(family)
+    if sourced == 0 { 0 } else { width(family) }
 }
 
 // The first words of an address, each after the one before it.
@@ -122,11 +109,8 @@ fn put_words(buf: &mut [u8], a: [u32; 4], words: usize) -> usize
     ensures value { result ≡ 4 * words }
     ensures wrote { Wrote (octets_of (take words a)) result buf.old buf.new }
 {
-    let mut i: usize = 0;
-    while i < words {
-        let at = 4 * i;
-        put32(&mut buf[at..], a[i]);
-        i += 1;
+    for i in 0..words {
+        put32(&mut buf[4 * i..], a[i]);
     }
     4 * words
 }

@@ -14,16 +14,15 @@ use Rattle.flow_octets.proofs.put_words.Goals as goal
 pub loop-i-init : goal.loop-i-init
 unfolding octets_of
 loop-i-init c =
-    (search rules, refl, over_none _)
+    (refl, over_none _)
 
 pub loop-i-preserved : goal.loop-i-preserved
 loop-i-preserved c =
     let a = c.args in
     let i = c.loop-i.i in
     let e : length a.a ≡ 4 = omega (arith, c.well_formed.1.0) in (
-      omega arith,
       search rules,
-      lent-after (octets_of (take i a.a)) (oct32 (get_or a.a i 0)) a.buf.now (4 * i) c.loop-i.invariant.2 (length-first i a.a (omega arith)) c.put32.ensures
+      lent-after (octets_of (take i a.a)) (oct32 (get_or a.a i 0)) a.buf.now (4 * i) c.loop-i.invariant.1 (length-first i a.a (omega arith)) c.put32.ensures
           ∙ ap (λ (w : List ℕ). over w a.buf.now) (octets-turn i a.a (omega arith)),
     )
 
@@ -35,6 +34,6 @@ returns c =
       value = search rules;
       wrote = record {
         size = sym (length-first a.words a.a (omega arith));
-        text = c.loop-i.invariant.2 ∙ ap (λ (k : ℕ). over (octets_of (take k a.a)) a.buf.now) n;
+        text = c.loop-i.invariant.1 ∙ ap (λ (k : ℕ). over (octets_of (take k a.a)) a.buf.now) n;
       };
     }

@@ -2,11 +2,7 @@ use mathlib.Core.Path.{◌≡◌}
 use lib.ListN.{length, take}
 use Rattle.octets.specs.Writing.{over}
 use Rattle.flows.specs.Words.{octets_of}
-use Prim.Native.Nat.{◌≤◌, ◌-◌}
 use Rattle.flow_octets.proofs.put_words.Given as goal
 
 abbrev pub invariant-loop-i : goal.invariant-loop-i
-invariant-loop-i l = (l.i ≤ l.words) × (length l.buf ≡ length l.initial.buf) × (l.buf ≡ over (octets_of (take l.i l.a)) l.initial.buf)
-
-abbrev pub decreases-loop-i : goal.decreases-loop-i
-decreases-loop-i l = l.words - l.i
+invariant-loop-i l = (length l.buf ≡ length l.initial.buf) × (l.buf ≡ over (octets_of (take l.i l.a)) l.initial.buf)

@@ -7,6 +7,6 @@ pub returns-then-sourced-eq0 : goal.returns-then-sourced-eq0
 unfolding source_words
 returns-then-sourced-eq0 c = record { value = simp (eq-eqb _ _ c.if-sourced-eq0.true); upper_bound = omega arith }
 
-pub returns : goal.returns
+pub returns-else-sourced-eq0 : goal.returns-else-sourced-eq0
 unfolding source_words
-returns c = record { value = simp (ne_eqb _ _ c.if-sourced-eq0.false) c.width.ensures.value; upper_bound = omega arith }
+returns-else-sourced-eq0 c = record { value = simp (ne_eqb _ _ c.if-sourced-eq0.false) c.width.ensures.value; upper_bound = omega arith }

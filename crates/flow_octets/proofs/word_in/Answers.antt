@@ -6,6 +6,6 @@ pub returns-then-i-words : goal.returns-then-i-words
 unfolding word_in
 returns-then-i-words c = simp (lt-ltb _ _ c.if-i-words.true) c.read32.ensures
 
-pub returns : goal.returns
+pub returns-else-i-words : goal.returns-else-i-words
 unfolding word_in
-returns c = simp (le-ltb _ _ c.if-i-words.false)
+returns-else-i-words c = simp (le-ltb _ _ c.if-i-words.false)
