@@ -1,5 +1,6 @@
 -- What the first test of a list that fails names.
 --     names-none, names-fails, names_on     of no test; of a list whose first test fails; of one whose first test passes
+--     Error, err-fails, err_on              the same of a fault whose table is not 0
 --     names_stop, names-go                  of two lists, one after the other: what the first names; what the second names
 --     Turn, turn_start, turn_stop, turn_on, turn_end     row by row
 --     names-many, names-rows                a table that has too many rows, and one that has not
@@ -33,6 +34,17 @@ module _ (c : Check) (cs : List Check) {r : Fault} where
     first = n.first ∙ ap (λ (b : Bool). cond b (first_fault cs) c.fault) (sym h);
     whole = n.whole ∙ ap (λ (b : Bool). b && all_pass cs) (sym h);
   }
+
+-- of a fault that is an error
+abbrev pub Error : List Check → Fault → Type 0
+Error cs r = NamesFault cs r × (eqb r.table 0 ≡ false)
+
+module _ (c : Check) (cs : List Check) {r : Fault} where
+  pub err-fails : c.passes ≡ false → eqb c.fault.table 0 ≡ false → r ≡ c.fault → Error (c ∷ cs) r
+  err-fails h z e = (names-fails c cs h z e, ap (λ (x : Fault). eqb x.table 0) e ∙ z)
+
+  pub err_on : c.passes ≡ true → Error cs r → Error (c ∷ cs) r
+  err_on h n = (names_on c cs h n.0, n.1)
 
 -- ---- one list after the other
 first_stop : (xs ys : List Check) → all_pass xs ≡ false → (first_fault (xs ++ ys) ≡ first_fault xs) × (all_pass (xs ++ ys) ≡ false)

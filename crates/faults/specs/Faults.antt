@@ -1,6 +1,6 @@
 -- Why start refuses (number 14): its tests in their order, each with the place that it is about. Assumes nothing: these
 -- are definitions.
-use Rattle.std.specs.Prelude.{ℕ, zero, suc, ◌≡◌, Bool, true, cond, ◌&&◌, List, [], ◌∷◌, ◌++◌, eqb, leb}
+use Rattle.std.specs.Prelude.{ℕ, zero, suc, ◌≡◌, Bool, true, false, cond, ◌&&◌, List, [], ◌∷◌, ◌++◌, eqb, leb, Result, Ok, Err}
 use Rattle.octets.specs.Tests.{every}
 use Rattle.flows.specs.Flows.{known_family, good_group, good_source}
 use Rattle.rows.specs.Rows.{none_of}
@@ -40,6 +40,11 @@ first_fault (c ∷ cs) = cond c.passes (first_fault cs) c.fault
 pub record NamesFault (cs : List Check) (r : Fault) : Type 0 where
   pub first : r ≡ first_fault cs
   pub whole : eqb r.table 0 ≡ all_pass cs
+
+-- what a check of these tests answers: an error is what the first that fails names, and its table is not 0
+abbrev pub Refuses : {U : Type 0} → List Check → Result U Fault → Type 0
+Refuses cs (Ok u) = NamesFault cs no_fault
+Refuses cs (Err f) = NamesFault cs f × (eqb f.table 0 ≡ false)
 
 -- ---- the tests of a row. Tables: 1 ports, 2 channels, 3 list entries, 4 the first number
 

@@ -3,7 +3,7 @@
 // Why start refuses its tables or its first number (number 14): the first test that fails, by table, row and field.
 ghost use Rattle.std.specs.Prelude.{◌≡◌, Bool, ◌<◌, eqb};
 ghost use Rattle.card.specs.Start.{start_of};
-ghost use Rattle.faults.specs.Faults.{NamesFault, fault_at, port_checks, channel_checks, entry_checks, table_checks, start_checks};
+ghost use Rattle.faults.specs.Faults.{NamesFault, Refuses, fault_at, port_checks, channel_checks, entry_checks, table_checks, start_checks};
 
 use channels::{channel_at, channel_of, rate_at};
 use circuits::{id_at, port_of};
@@ -34,22 +34,39 @@ pub fn start_fault(
     ensures names { NamesFault (start_checks ids.now ports channels.now channel_count entries.now entry_count first) result }
     ensures none { (white add : Bool) → eqb result.table 0 ≡ eqb (start_of ids.now ports channels.now channel_count entries.now entry_count white add first).number 0 }
 {
-    let p = ports_fault(ids, ports);
-    if p.table != 0 {
-        return p;
+    match checked(
+        ids,
+        ports,
+        channels,
+        channel_count,
+        entries,
+        entry_count,
+        first,
+    ) {
+        Ok(()) => fault_at(0, 0, 0),
+        Err(fault) => fault,
     }
-    let c = channels_fault(channels, channel_count);
-    if c.table != 0 {
-        return c;
-    }
-    let e = entries_fault(entries, entry_count);
-    if e.table != 0 {
-        return e;
-    }
+}
+
+// The tests of a start in their order.
+fn checked(
+    ids: &[u8; 4096],
+    ports: usize,
+    channels: &[u32; 2816],
+    channel_count: usize,
+    entries: &[u32; 1536],
+    entry_count: usize,
+    first: u32,
+) -> Result<(), Fault>
+    ensures { Refuses (start_checks ids.now ports channels.now channel_count entries.now entry_count first) result }
+{
+    ports_fault(ids, ports)?;
+    channels_fault(channels, channel_count)?;
+    entries_fault(entries, entry_count)?;
     if !card::first_ok(first) {
-        return fault_at(4, 0, 11);
+        return Err(fault_at(4, 0, 11));
     }
-    fault_at(0, 0, 0)
+    Ok(())
 }
 
 fn fault_at(table: u8, row: usize, field: u8) -> Fault
@@ -60,124 +77,107 @@ fn fault_at(table: u8, row: usize, field: u8) -> Fault
 
 // ---- circuit ids
 
-fn ports_fault(ids: &[u8; 4096], n: usize) -> Fault
-    ensures { NamesFault (table_checks 1 64 n (port_checks ids.now)) result }
+fn ports_fault(ids: &[u8; 4096], n: usize) -> Result<(), Fault>
+    ensures { Refuses (table_checks 1 64 n (port_checks ids.now)) result }
 {
     if 64 < n {
-        return fault_at(1, 0, 1);
+        return Err(fault_at(1, 0, 1));
     }
-    let mut i: usize = 0;
-    while i < n {
-        let r = port_fault(ids, i as u8);
-        if r.table != 0 {
-            return r;
-        }
-        i += 1;
+    for i in 0..n {
+        port_fault(ids, i as u8)?;
     }
-    fault_at(0, 0, 0)
+    Ok(())
 }
 
-fn port_fault(ids: &[u8; 4096], p: u8) -> Fault
+fn port_fault(ids: &[u8; 4096], p: u8) -> Result<(), Fault>
     requires { p < 64 }
-    ensures { NamesFault (port_checks ids.now p) result }
+    ensures { Refuses (port_checks ids.now p) result }
 {
     let at = p as usize;
     let length = ids[at * 64];
     if length < 1 {
-        return fault_at(1, at, 2);
+        return Err(fault_at(1, at, 2));
     }
     if 63 < length {
-        return fault_at(1, at, 2);
+        return Err(fault_at(1, at, 2));
     }
     if port_of(ids, at, id_at(ids, p)).is_some() {
-        return fault_at(1, at, 3);
+        return Err(fault_at(1, at, 3));
     }
-    fault_at(0, 0, 0)
+    Ok(())
 }
 
 // ---- channels
 
-fn channels_fault(channels: &[u32; 2816], n: usize) -> Fault
-    ensures { NamesFault (table_checks 2 256 n (channel_checks channels.now)) result }
+fn channels_fault(channels: &[u32; 2816], n: usize) -> Result<(), Fault>
+    ensures { Refuses (table_checks 2 256 n (channel_checks channels.now)) result }
 {
     if 256 < n {
-        return fault_at(2, 0, 1);
+        return Err(fault_at(2, 0, 1));
     }
-    let mut i: usize = 0;
-    while i < n {
-        let r = channel_fault(channels, i as u8);
-        if r.table != 0 {
-            return r;
-        }
-        i += 1;
+    for i in 0..n {
+        channel_fault(channels, i as u8)?;
     }
-    fault_at(0, 0, 0)
+    Ok(())
 }
 
-fn channel_fault(channels: &[u32; 2816], i: u8) -> Fault
-    ensures { NamesFault (channel_checks channels.now i) result }
+fn channel_fault(channels: &[u32; 2816], i: u8) -> Result<(), Fault>
+    ensures { Refuses (channel_checks channels.now i) result }
 {
     let at = i as usize;
     let rate = rate_at(channels, i);
     if rate < 1 {
-        return fault_at(2, at, 4);
+        return Err(fault_at(2, at, 4));
     }
     if 10000000 < rate {
-        return fault_at(2, at, 4);
+        return Err(fault_at(2, at, 4));
     }
     let f = channel_at(channels, i);
     if !known_family(f.family) {
-        return fault_at(2, at, 5);
+        return Err(fault_at(2, at, 5));
     }
-    let group = f.group;
-    if !good_group(f.family, group) {
-        return fault_at(2, at, 6);
+    if !good_group(f.family, f.group) {
+        return Err(fault_at(2, at, 6));
     }
-    let source = f.source;
-    if !good_source(f.family, f.sourced, source) {
-        return fault_at(2, at, 7);
+    if !good_source(f.family, f.sourced, f.source) {
+        return Err(fault_at(2, at, 7));
     }
     if channel_of(channels, at, f).is_some() {
-        return fault_at(2, at, 3);
+        return Err(fault_at(2, at, 3));
     }
-    fault_at(0, 0, 0)
+    Ok(())
 }
 
 // ---- list entries
 
-fn entries_fault(entries: &[u32; 1536], n: usize) -> Fault
-    ensures { NamesFault (table_checks 3 128 n (entry_checks entries.now)) result }
+fn entries_fault(entries: &[u32; 1536], n: usize) -> Result<(), Fault>
+    ensures { Refuses (table_checks 3 128 n (entry_checks entries.now)) result }
 {
     if 128 < n {
-        return fault_at(3, 0, 1);
+        return Err(fault_at(3, 0, 1));
     }
-    let mut i: usize = 0;
-    while i < n {
-        let r = entry_fault(entries, i);
-        if r.table != 0 {
-            return r;
-        }
-        i += 1;
+    for i in 0..n {
+        entry_fault(entries, i)?;
     }
-    fault_at(0, 0, 0)
+    Ok(())
 }
 
-fn entry_fault(entries: &[u32; 1536], i: usize) -> Fault
+fn entry_fault(entries: &[u32; 1536], i: usize) -> Result<(), Fault>
     requires { i < 128 }
-    ensures { NamesFault (entry_checks entries.now i) result }
+    ensures { Refuses (entry_checks entries.now i) result }
 {
     let e = entry_at(entries, i);
     if !known_family(e.family) {
-        return fault_at(3, i, 5);
+        return Err(fault_at(3, i, 5));
     }
     if !known_list(e.list) {
-        return fault_at(3, i, 8);
+        return Err(fault_at(3, i, 8));
     }
     if !within_address(e.family, e.group_length) {
-        return fault_at(3, i, 9);
+        return Err(fault_at(3, i, 9));
     }
     if !within_address(e.family, e.source_length) {
-        return fault_at(3, i, 10);
+        return Err(fault_at(3, i, 10));
     }
-    fault_at(0, 0, 0)
+    Ok(())
 }

@@ -1,10 +1,6 @@
-use Prim.Native.Nat.{◌-◌, ◌≤◌}
 use Rattle.faults.specs.Faults.{channel_checks}
 use Rattle.faults.proofs.Lists.{Turn}
 use Rattle.faults.proofs.channels_fault.Given as goal
 
 abbrev pub invariant-loop-i : goal.invariant-loop-i
-invariant-loop-i l = (l.i ≤ l.n) × Turn (channel_checks l.channels) l.n l.i
-
-abbrev pub decreases-loop-i : goal.decreases-loop-i
-decreases-loop-i l = l.n - l.i
+invariant-loop-i l = Turn (channel_checks l.channels) l.n l.i

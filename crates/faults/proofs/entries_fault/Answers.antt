@@ -1,31 +1,37 @@
-use mathlib.Core.Path.{refl}
-use native.Mathlib.Omega.{arith}
-use borrow.Author.Tests.{eq-eqb, ne_eqb}
-use Rattle.faults.specs.Faults.{entry_checks}
+use Rattle.std.proofs.Common.{rules}
+use mathlib.Core.Path.{◌≡◌, refl, sym, ap, subst}
+use lib.Dec.{eqb}
+use Rattle.faults.specs.declared.Fault.{Fault}
+use Rattle.std.specs.Prelude.{Err}
+use Rattle.faults.specs.Faults.{Refuses, table_checks, entry_checks}
 use Rattle.faults.proofs.Lists.{turn_start, turn_stop, turn_on, turn_end, names-many, names-rows}
 use Rattle.faults.proofs.entries_fault.Goals as goal
 
 pub returns-then-n-gt128 : goal.returns-then-n-gt128
-returns-then-n-gt128 c = let a = c.args in names-many 3 128 a.n (entry_checks a.entries.now) refl c.if-n-gt128.true c.fault_at.ensures
+returns-then-n-gt128 c =
+    let a = c.args in
+    (names-many 3 128 a.n (entry_checks a.entries.now) refl c.if-n-gt128.true c.fault_at.ensures, ap (λ (x : Fault). eqb x.table 0) c.fault_at.ensures)
 
 pub loop-i-init : goal.loop-i-init
-loop-i-init c = let a = c.args in (omega arith, turn_start (entry_checks a.entries.now) a.n)
+loop-i-init c = let a = c.args in turn_start (entry_checks a.entries.now) a.n
 
-pub returns-then-r-ne0 : goal.returns-then-r-ne0
-returns-then-r-ne0 c =
+pub returns-in_err-entry_fault : goal.returns-in_err-entry_fault
+returns-in_err-entry_fault c =
     let a = c.args in
     let rows = entry_checks a.entries.now in
-    names-rows 3 128 a.n rows c.if-n-gt128.false
-    (turn_stop rows a.n c.loop-i.i c.loop-i.invariant.1 c.loop-i-test.true c.entry_fault-r.ensures (ne_eqb _ _ c.if-r-ne0.true))
+    let n = c.in_err-entry_fault.ensures in
+    let e : c.from_residual.result ≡ Err c.in_err-entry_fault.field-0.0 = search rules in
+    subst (λ r. Refuses (table_checks 3 128 a.n rows) r) (sym e)
+    (names-rows 3 128 a.n rows c.if-n-gt128.false (turn_stop rows a.n c.loop-i.i c.loop-i.invariant c.loop-i-test.true n.0 n.1), n.1)
 
 pub loop-i-preserved : goal.loop-i-preserved
 loop-i-preserved c =
     let a = c.args in
-    (omega arith, turn_on (entry_checks a.entries.now) a.n c.loop-i.i c.loop-i.invariant.1 c.loop-i-test.true c.entry_fault-r.ensures (eq-eqb _ _ c.if-r-ne0.false))
+    turn_on (entry_checks a.entries.now) a.n c.loop-i.i c.loop-i.invariant c.loop-i-test.true c.in_ok-entry_fault.ensures refl
 
 pub returns : goal.returns
 returns c =
     let a = c.args in
     let rows = entry_checks a.entries.now in
     names-rows 3 128 a.n rows c.if-n-gt128.false
-    (turn_end rows a.n c.loop-i.i c.loop-i.invariant.1 c.loop-i-test.false c.fault_at-2.ensures)
+    (turn_end rows a.n c.loop-i.i c.loop-i.invariant c.loop-i-test.false refl)

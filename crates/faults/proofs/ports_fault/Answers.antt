@@ -1,31 +1,37 @@
-use mathlib.Core.Path.{refl}
-use native.Mathlib.Omega.{arith}
-use borrow.Author.Tests.{eq-eqb, ne_eqb}
-use Rattle.faults.specs.Faults.{port_checks}
+use Rattle.std.proofs.Common.{rules}
+use mathlib.Core.Path.{◌≡◌, refl, sym, ap, subst}
+use lib.Dec.{eqb}
+use Rattle.faults.specs.declared.Fault.{Fault}
+use Rattle.std.specs.Prelude.{Err}
+use Rattle.faults.specs.Faults.{Refuses, table_checks, port_checks}
 use Rattle.faults.proofs.Lists.{turn_start, turn_stop, turn_on, turn_end, names-many, names-rows}
 use Rattle.faults.proofs.ports_fault.Goals as goal
 
 pub returns-then-n-gt64 : goal.returns-then-n-gt64
-returns-then-n-gt64 c = let a = c.args in names-many 1 64 a.n (port_checks a.ids.now) refl c.if-n-gt64.true c.fault_at.ensures
+returns-then-n-gt64 c =
+    let a = c.args in
+    (names-many 1 64 a.n (port_checks a.ids.now) refl c.if-n-gt64.true c.fault_at.ensures, ap (λ (x : Fault). eqb x.table 0) c.fault_at.ensures)
 
 pub loop-i-init : goal.loop-i-init
-loop-i-init c = let a = c.args in (omega arith, turn_start (port_checks a.ids.now) a.n)
+loop-i-init c = let a = c.args in turn_start (port_checks a.ids.now) a.n
 
-pub returns-then-r-ne0 : goal.returns-then-r-ne0
-returns-then-r-ne0 c =
+pub returns-in_err-port_fault : goal.returns-in_err-port_fault
+returns-in_err-port_fault c =
     let a = c.args in
     let rows = port_checks a.ids.now in
-    names-rows 1 64 a.n rows c.if-n-gt64.false
-    (turn_stop rows a.n c.loop-i.i c.loop-i.invariant.1 c.loop-i-test.true c.port_fault-r.ensures (ne_eqb _ _ c.if-r-ne0.true))
+    let n = c.in_err-port_fault.ensures in
+    let e : c.from_residual.result ≡ Err c.in_err-port_fault.field-0.0 = search rules in
+    subst (λ r. Refuses (table_checks 1 64 a.n rows) r) (sym e)
+    (names-rows 1 64 a.n rows c.if-n-gt64.false (turn_stop rows a.n c.loop-i.i c.loop-i.invariant c.loop-i-test.true n.0 n.1), n.1)
 
 pub loop-i-preserved : goal.loop-i-preserved
 loop-i-preserved c =
     let a = c.args in
-    (omega arith, turn_on (port_checks a.ids.now) a.n c.loop-i.i c.loop-i.invariant.1 c.loop-i-test.true c.port_fault-r.ensures (eq-eqb _ _ c.if-r-ne0.false))
+    turn_on (port_checks a.ids.now) a.n c.loop-i.i c.loop-i.invariant c.loop-i-test.true c.in_ok-port_fault.ensures refl
 
 pub returns : goal.returns
 returns c =
     let a = c.args in
     let rows = port_checks a.ids.now in
     names-rows 1 64 a.n rows c.if-n-gt64.false
-    (turn_end rows a.n c.loop-i.i c.loop-i.invariant.1 c.loop-i-test.false c.fault_at-2.ensures)
+    (turn_end rows a.n c.loop-i.i c.loop-i.invariant c.loop-i-test.false refl)

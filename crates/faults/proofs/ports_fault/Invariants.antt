@@ -1,10 +1,6 @@
-use Prim.Native.Nat.{◌-◌, ◌≤◌}
 use Rattle.faults.specs.Faults.{port_checks}
 use Rattle.faults.proofs.Lists.{Turn}
 use Rattle.faults.proofs.ports_fault.Given as goal
 
 abbrev pub invariant-loop-i : goal.invariant-loop-i
-invariant-loop-i l = (l.i ≤ l.n) × Turn (port_checks l.ids) l.n l.i
-
-abbrev pub decreases-loop-i : goal.decreases-loop-i
-decreases-loop-i l = l.n - l.i
+invariant-loop-i l = Turn (port_checks l.ids) l.n l.i
