@@ -23,19 +23,12 @@ pub fn number32(s: &[u8], at: u8) -> u32
     ensures { result ≡ be32 s.now at }
 {
     let i = at as usize;
-    join32(
+    u32::from_be_bytes([
         read8(s, i),
         read8(s, i + 1),
         read8(s, i + 2),
         read8(s, i + 3),
-    )
-}
-
-// Four octets as one number.
-pub fn join32(a: u8, b: u8, c: u8, d: u8) -> u32
-    ensures { result ≡ ((a * 256 + b) * 256 + c) * 256 + d }
-{
-    u32::from_be_bytes([a, b, c, d])
+    ])
 }
 
 // Those that may not.
