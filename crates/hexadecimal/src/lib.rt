@@ -49,6 +49,7 @@ fn put_pairs(s: &[u8], n: usize, buf: &mut [u8])
     requires { (length s.now ≡ n + n) × (n ≤ length buf.old) × (digits_in s.now ≡ length s.now) }
     ensures { buf.new ≡ over (octets_in s.now) buf.old }
 {
+    // An index, and no chunks_exact: a proof of the chunks did not close (that chunk i is the pair at 2 i).
     for i in 0..n {
         buf[i] = pair(s[i + i], s[i + i + 1]);
     }
