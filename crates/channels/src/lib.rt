@@ -14,6 +14,7 @@ pub fn channel_at(channels: &[u32; 2816], i: u8) -> Flow
     let at = (i as usize) * 11;
     let g = at + 3;
     let s = at + 7;
+    // The words by their places: a slice's try_into gives a Result, which here never fails.
     Flow {
         family: channels[at],
         sourced: channels[at + 1],

@@ -26,6 +26,7 @@ pub struct Flow {
     pub source: [u32; 4],
 }
 
+// `==` in the words of specs/, which the theorems above speak in.
 pub fn same_flow(a: Flow, b: Flow) -> bool
     ensures { result ≡ same_flow a b }
 {
@@ -119,6 +120,7 @@ impl PartialOrd for Flow {
     }
 }
 
+// `<` in the words of specs/.
 pub fn flow_before(a: Flow, b: Flow) -> bool
     ensures { result ≡ flow_before a b }
 {

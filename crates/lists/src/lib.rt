@@ -94,6 +94,7 @@ pub fn entry_at(entries: &[u32; 1536], i: usize) -> Entry
     let at = i * 12;
     let g = at + 4;
     let s = at + 8;
+    // The words by their places: a slice's try_into gives a Result, which here never fails.
     Entry {
         family: entries[at],
         list: entries[at + 1],

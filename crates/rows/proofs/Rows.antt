@@ -1,7 +1,7 @@
 -- Searching the rows of a table, and testing all of them, for any test.
 --     first-start, first-here, first_on, first_end    the beginning of a search, one turn, and its end
 --     found_at, found_none, found_is    a row that is found passes and is the first; where nothing is found none passes
---     all_at, all_by, all_on, all_off   all rows pass: each does
+--     all_at, all_by, all_off           all rows pass: each does
 --     none-at, nothing-none             none passes: each fails, and a search finds nothing
 --     alone                             where each row is none of those before it, rows that are the same are one row
 --     rows-many, rows-off, rows-by, rows_at     a table of at most so many rows, each of which passes
@@ -125,11 +125,7 @@ unfolding all_of
 all_by zero test h = refl
 all_by (suc n) test h = ap₂ ◌&&◌ (all_by n test (λ k l. h k (omega arith))) (h n (omega arith))
 
--- a loop that has passed the rows before i: one more, and a row that fails
-pub all_on : (i : ℕ) (test : ℕ → Bool) → all_of i test ≡ true → test i ≡ true → all_of (i + 1) test ≡ true
-unfolding all_of
-all_on i test h t = rw add-one (ap₂ ◌&&◌ h t)
-
+-- a row that fails
 pub all_off : (n : ℕ) (test : ℕ → Bool) (i : ℕ) → i < n → test i ≡ false → false ≡ all_of n test
 all_off n test i l t = false_by (all_of n test) (λ e. false≢true (sym t ∙ all_at n test e i l))
 
