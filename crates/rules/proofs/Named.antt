@@ -19,7 +19,7 @@ use borrow.Rule.Slice.PartMut.{put_mid}
 use Rattle.std.specs.List.{list_any}
 use Rattle.octets.specs.Writing.{over, Wrote}
 use Rattle.octets.proofs.Writing.{lent-after}
-use Rattle.items.specs.Items.{Item, of_type, count_of, from_type}
+use Rattle.items.specs.Items.{Item, of_type, count_of}
 use Rattle.writers.specs.Tlvs.{bare_of}
 use Rattle.writers.proofs.Tlvs.{length-tlv}
 use Rattle.rules.specs.declared.Rule.{Rule}
@@ -28,14 +28,13 @@ use Rattle.rules.specs.Named.{lacks, missing, bares}
 
 -- ---- a TLV of type t stands
 module _ (t : ℕ) where
-  some_by : (b : Bool) (x : Item) (xs : List Item) → ltb 0 (length (from_type t xs)) ≡ not (eqb (length (of_type t xs)) 0)
-      → ltb 0 (length (cond b (x ∷ xs) (from_type t xs))) ≡ not (eqb (length (cond b (x.content ∷ of_type t xs) (of_type t xs))) 0)
-  some_by true x xs h =
-      lt-ltb 0 (length (x ∷ xs)) (omega arith) ∙ sym (ap not (ne_eqb (length (x.content ∷ of_type t xs)) 0 (λ e. omega arith)))
+  some_by : (b : Bool) (x : Item) (xs : List Item) → list_any (λ (i : Item). eqb i.kind t) xs ≡ not (eqb (length (of_type t xs)) 0)
+      → (b || list_any (λ (i : Item). eqb i.kind t) xs) ≡ not (eqb (length (cond b (x.content ∷ of_type t xs) (of_type t xs))) 0)
+  some_by true x xs h = sym (ap not (ne_eqb (length (x.content ∷ of_type t xs)) 0 (λ e. omega arith)))
   some_by false x xs h = h
 
-  pub stands_by : (is : List Item) → ltb 0 (length (from_type t is)) ≡ not (eqb (count_of t is) 0)
-  unfolding count_of of_type from_type
+  pub stands_by : (is : List Item) → list_any (λ (i : Item). eqb i.kind t) is ≡ not (eqb (count_of t is) 0)
+  unfolding count_of of_type
   stands_by [] = refl
   stands_by (x ∷ xs) = some_by (eqb x.kind t) x xs (stands_by xs)
 

@@ -10,6 +10,7 @@ ghost use Rattle.rules.specs.declared.Rule.{Rule};
 ghost use Rattle.rules.specs.Named.{lacks, missing, bares, content_ok, from_fault, HasExtent};
 
 use fields::{ALLOCATION, COMMAND, REQUEST, TARGET};
+use items::Tlvs;
 use tlv::First;
 
 // The rule for the TLVs of type `kind` in a message: `needed`, one of them or of type `instead` must stand; `single`, no
@@ -114,14 +115,7 @@ fn lacks(r: &Rule, tlvs: &[u8]) -> bool
 fn stands(tlvs: &[u8], kind: u16) -> bool
     ensures { result ≡ not (eqb (count_of kind (items_of tlvs.now)) 0) }
 {
-    is_any(items::from_type(tlvs, kind))
-}
-
-// Any TLV stands in the part.
-fn is_any(tlvs: &[u8]) -> bool
-    ensures { result ≡ ltb 0 (length (items_of tlvs.now)) }
-{
-    matches!(tlv::first_tlv(tlvs), First::Tlv { .. })
+    Tlvs::of(tlvs).any(|t| t.kind == kind)
 }
 
 // A bare header of each missing type, each directly behind the one before it.
