@@ -1,24 +1,19 @@
 -- The commands of a 144.
 --     from_none, from_next, from_fail    no command is left, the next one succeeds, the next one fails
 --     all_written, all_silent            all good, for Result 2 and for any other
---     commands_end, .. commands_hit      the Commands from a place on, by what a step read there
+--     commands_end, .. commands_hit      the Commands among the TLVs that are left
 --     controlled-by                      all of them, with the port's circuit id
 -- Assumes nothing.
 use mathlib.Core.Path.{◌≡◌, refl, sym, ap, ◌∙◌}
 use mathlib.Core.List.{List, [], ◌∷◌}
 use mathlib.Core.Bool.{cond}
 use Prim.Native.Nat.{ℕ, ◌+◌}
-use lib.ListN.{take, drop}
 use lib.Dec.{eqb}
 use borrow.Author.Tests.{eq-eqb, ne_eqb}
 use Rattle.octets.proofs.Tests.{taken, left}
 use Rattle.header.specs.declared.Header.{Header}
-use Rattle.tlv.specs.declared.First.TheVariants.{End, Broken, Tlv}
-use Rattle.items.specs.Items.{item, items_of, of_type}
+use Rattle.items.specs.Items.{Item, of_type}
 use Rattle.items.proofs.Types.{of_hit, of_miss}
-use Rattle.reader.specs.declared.Step.{Step}
-use Rattle.reader.specs.Reader.{step_at}
-use Rattle.reader.proofs.Steps.{step_end, step-broken, step-tlv}
 use Rattle.replies.specs.Replies.{success_of}
 use Rattle.circuits.specs.Circuits.{id_at}
 use Rattle.card.specs.Cards.{Card}
@@ -58,22 +53,17 @@ module _ (h : Header) (card : Card) where
   unfolding all_good
   all_silent e = left (eqb h.result 2) (writes card (success_of h)) (becomes card) (ne_eqb h.result 2 e)
 
--- x is what `step_at` gave of s at a place
-module _ (s : List ℕ) (at : ℕ) {x : Step} (e : x ≡ step_at s at) where
-  pub commands_end : x.first ≡ End → commands_in (drop at s) ≡ []
-  unfolding of_type
-  commands_end g = ap (of_type 0x0011) (step_end s at e g)
+-- the Commands among the TLVs that are left, by what stands first there
+pub commands_end : {is : List Item} → is ≡ [] → of_type 0x0011 is ≡ []
+unfolding of_type
+commands_end e = ap (of_type 0x0011) e
 
-  pub commands-broken : x.first ≡ Broken → commands_in (drop at s) ≡ []
-  unfolding of_type
-  commands-broken g = ap (of_type 0x0011) (step-broken s at e g)
+module _ {is rest : List Item} {i : Item} (e : is ≡ i ∷ rest) where
+  pub commands_miss : (i.kind ≡ 0x0011 → ⊥) → of_type 0x0011 is ≡ of_type 0x0011 rest
+  commands_miss k = ap (of_type 0x0011) e ∙ of_miss i rest k
 
-  module _ {t n m : ℕ} (g : x.first ≡ Tlv t n m) where
-    pub commands_miss : (t ≡ 0x0011 → ⊥) → commands_in (drop at s) ≡ commands_in (drop x.next s)
-    commands_miss k = ap (of_type 0x0011) (step-tlv s at e g) ∙ of_miss (item t (take n (drop (at + 4) s))) (items_of (drop x.next s)) k
-
-    pub commands_hit : t ≡ 0x0011 → commands_in (drop at s) ≡ take n (drop (at + 4) s) ∷ commands_in (drop x.next s)
-    commands_hit k = ap (of_type 0x0011) (step-tlv s at e g) ∙ of_hit (item t (take n (drop (at + 4) s))) (items_of (drop x.next s)) k
+  pub commands_hit : i.kind ≡ 0x0011 → of_type 0x0011 is ≡ i.content ∷ of_type 0x0011 rest
+  commands_hit k = ap (of_type 0x0011) e ∙ of_hit i rest k
 
 pub controlled-by : (ids channels : List ℕ) (card : Card) (h : Header) (p : ℕ) (s : List ℕ) {id : List ℕ} → id ≡ id_at ids p
     → commands_from channels h id p card 1 (commands_in s) ≡ controlled ids channels card h p s

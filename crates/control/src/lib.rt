@@ -12,9 +12,9 @@ ghost use Rattle.control.specs.Control.{failure_of, all_good, commands_from, com
 use card::{Effect, Terms};
 use fields::COMMAND;
 use header::Header;
+use items::Tlvs;
 use pool::Pool;
 use ports::Change;
-use tlv::First;
 
 // The pool becomes that of the card afterwards; no port's record changes.
 pub fn control(
@@ -48,25 +48,16 @@ fn run_all(
     ensures { Controls (λ card. commands_from channels.now h id.now terms.at card 1 (commands_in tlvs.now)) terms pool.old pool.new result reply.old reply.new }
 {
     let mut seq: u32 = 1;
-    let mut at: usize = 0;
-    loop {
-        let step = reader::step_at(tlvs, at);
-        match step.first {
-            First::End | First::Broken => return finish(h, reply),
-            First::Tlv { kind, len, size: _ } => {
-                if kind == COMMAND {
-                    let b = at + 4;
-                    let e = b + len;
-                    let c = &tlvs[b..e];
-                    if let Err(code) = commands::run_command(pool, channels, terms, c) {
-                        return put_failure(reply, h, code, id, seq, c);
-                    }
-                    seq += 1;
-                }
-                at = step.next;
+    for t in Tlvs::of(tlvs) {
+        if t.kind == COMMAND {
+            let c = t.content;
+            if let Err(code) = commands::run_command(pool, channels, terms, c) {
+                return put_failure(reply, h, code, id, seq, c);
             }
+            seq += 1;
         }
     }
+    finish(h, reply)
 }
 
 // All good: Success for Result 2, nothing for Result 1.
