@@ -71,10 +71,7 @@ pub fn next_line<'a, R: BufRead>(
     text.clear();
     let mut characters = Read::take(input, LONGEST as u64);
     if characters.read_until(b'\n', text).is_err() {
-        return Err(Wrong {
-            at: 0,
-            why: Why::NotRead,
-        });
+        return Err(Wrong::new(0, Why::NotRead));
     }
     if text.is_empty() {
         return Ok(Next::End);
@@ -82,10 +79,7 @@ pub fn next_line<'a, R: BufRead>(
     if text.last() == Some(&b'\n') {
         text.pop();
     } else if text.len() == LONGEST {
-        return Err(Wrong {
-            at: LONGEST,
-            why: Why::LongLine,
-        });
+        return Err(Wrong::new(LONGEST, Why::LongLine));
     }
     parsed(text.as_slice(), buf)
 }
@@ -100,26 +94,17 @@ fn parsed<'a>(line: &'a [u8], buf: &'a mut [u8]) -> Result<Next<'a>, Wrong> {
         .unwrap_or(line.len());
     let (name, rest) = line.split_at(at);
     if name.is_empty() {
-        return Err(Wrong {
-            at,
-            why: Why::NoName,
-        });
+        return Err(Wrong::new(at, Why::NoName));
     }
     match rest {
         [b' ', letter, rest @ ..] => {
-            let verb = Verb::try_from(*letter).map_err(|why| Wrong { at: at + 1, why })?;
+            let verb = Verb::try_from(*letter).map_err(|why| Wrong::new(at + 1, why))?;
             let n = read_octets(verb, rest, at + 2, buf)?;
             let octets = &buf[..n];
             Ok(Next::Play(Line { name, verb, octets }))
         }
-        [b' '] => Err(Wrong {
-            at: at + 1,
-            why: Why::NoVerb,
-        }),
-        _ => Err(Wrong {
-            at,
-            why: Why::NoSpace,
-        }),
+        [b' '] => Err(Wrong::new(at + 1, Why::NoVerb)),
+        _ => Err(Wrong::new(at, Why::NoSpace)),
     }
 }
 
@@ -138,10 +123,7 @@ fn read_octets(verb: Verb, s: &[u8], at: usize, buf: &mut [u8]) -> Result<usize,
             verb.check(&buf[..n], from)?;
             Ok(n)
         }
-        _ => Err(Wrong {
-            at,
-            why: Why::NoSpace,
-        }),
+        _ => Err(Wrong::new(at, Why::NoSpace)),
     }
 }
 
@@ -188,29 +170,27 @@ impl Verb {
                 Why::TooMany
             };
             let at = from.saturating_add(n.min(wanted).saturating_mul(2));
-            return Err(Wrong { at, why });
+            return Err(Wrong::new(at, why));
         }
         if self == Verb::StartAgain && octets.first().is_some_and(|x| *x > 1) {
-            return Err(Wrong {
-                at: from,
-                why: Why::NoSwitch,
-            });
+            return Err(Wrong::new(from, Why::NoSwitch));
         }
         Ok(())
     }
 }
 
 impl Wrong {
+    fn new(at: usize, why: Why) -> Wrong {
+        Wrong { at, why }
+    }
+
     fn of_digits(e: ReadError, from: usize) -> Wrong {
         let (i, why) = match e {
             ReadError::NoDigit(i) => (i, Why::NoDigit),
             ReadError::OddDigit(i) => (i, Why::OddDigit),
             ReadError::NoRoom(i) => (i, Why::NoRoom),
         };
-        Wrong {
-            at: from.saturating_add(i),
-            why,
-        }
+        Wrong::new(from.saturating_add(i), why)
     }
 }
 
