@@ -15,7 +15,7 @@ ghost use Rattle.numbers.specs.Numbers.{after_of, Counted};
 ghost use Rattle.exports.specs.Answers.{CallDoes};
 
 use calls::HostCall;
-use card::{CardHead, Core};
+use card::{CardHead, Core, Terms};
 use faults::Fault;
 use flows::Flow;
 use pool::{FlowState, Rows};
@@ -127,7 +127,7 @@ pub struct Answer {
     pub length: usize,
 }
 
-// Any call, on the core where the host keeps it. Of the core the pool's maps are lent, and the record of the port that
+// Any call, on the core where the host keeps it. Of the core the pool is lent, and the record of the port that
 // the call is about is updated where it is stored; that record and the head are copied.
 pub fn ancp_card_call(
     core: &mut Core,
@@ -141,21 +141,19 @@ pub fn ancp_card_call(
     ensures { CallDoes ids.now channels.now entries.now (card_of core.old no_areas) call.now octets.now result (card_of core.new no_areas) reply.old reply.new }
 {
     let call = *call;
-    let head = core.head;
-    let p = calls::port_of(ids, head.port_count, call, octets);
+    let p = calls::port_of(ids, core.head.port_count, call, octets);
     let at = card::slot(p);
-    let x = core.ports[at];
+    let terms = Terms {
+        at,
+        head: core.head,
+        port: core.ports[at],
+    };
     let r = calls::call_in(
-        &mut core.pool.owner,
-        &mut core.pool.channel,
-        &mut core.pool.charged,
-        &mut core.pool.accounting,
+        &mut core.pool,
         ids,
         channels,
         entries,
-        at,
-        head,
-        x,
+        terms,
         p,
         call,
         octets,

@@ -1,10 +1,11 @@
 -- What a reader's tests say of the card, from the counts that it is given.
+--     is_no_request                        a request that is not open
 --     is_port_lem, not_port                whether p is a port's number
 --     state_of_row, active_of_row      of a port, what the row of the flow says
 -- Assumes nothing.
 use Rattle.std.specs.Prelude.{Option}
 use Prim.Native.Nat.{ℕ}
-use mathlib.Core.Path.{◌≡◌, sym, ap, ◌∙◌}
+use mathlib.Core.Path.{◌≡◌, sym, ap, ap₂, ◌∙◌}
 use mathlib.Core.Bool.{Bool, true, false}
 use mathlib.Core.List.{List}
 use Rattle.octets.proofs.Tests.{taken}
@@ -12,7 +13,12 @@ use Rattle.flows.specs.declared.Flow.{Flow}
 use Rattle.channels.specs.Channels.{channel_of}
 use Rattle.card.specs.Cards.{Card, is_port, has_port}
 use Rattle.listing.specs.Listing.{active_row, active_at}
-use Rattle.readers.specs.Readers.{state_row, flow_state_at}
+use Rattle.readers.specs.declared.Request.{Request}
+use Rattle.readers.specs.Readers.{no_request, state_row, flow_state_at}
+
+-- the default of a request, field by field
+pub is_no_request : {r : Request} → (r.asking ≡ false) × ((r.required ≡ 0) × ((r.preferred ≡ 0) × (r.transaction ≡ 0))) → r ≡ no_request
+is_no_request e = ap₂ (λ (x : Bool × ℕ) (y : ℕ × ℕ). record { asking = x.0; required = x.1; preferred = y.0; transaction = y.1 }) (ap₂ (λ (a : Bool) (b : ℕ). (a, b)) e.0 e.1.0) (ap₂ (λ (a : ℕ) (b : ℕ). (a, b)) e.1.1.0 e.1.1.1)
 
 -- b is what the reader's own test answered
 module _ (card : Card) (count p : ℕ) {b : Bool} (same : card.head.port_count ≡ count) (test : b ≡ is_port count p) where

@@ -18,10 +18,7 @@ use ports::Port;
 pub fn is_up(x: Port, count: usize, p: usize) -> bool
     ensures { (card : Card) → HasRecord card count p x → result ≡ up_of card p }
 {
-    if !card::is_port(count, p) {
-        return false;
-    }
-    x.up
+    card::is_port(count, p) && x.up
 }
 
 pub fn delegation(x: Port, count: usize, p: usize) -> u32
@@ -34,8 +31,9 @@ pub fn delegation(x: Port, count: usize, p: usize) -> u32
 }
 
 // asking: a request is open, with its figures and its transaction number. Else these are 0.
+// A flag with its values beside it, and no Option: C's `struct ancp_request` has these fields (layout_core).
 #[repr(C)]
-#[derive(Clone, Copy)]
+#[derive(Clone, Copy, Default)]
 pub struct Request {
     pub asking: bool,
     pub required: u32,
@@ -47,12 +45,7 @@ pub fn open_request(x: Port, count: usize, p: usize) -> Request
     ensures { (card : Card) → HasRecord card count p x → result ≡ open_request_of card p }
 {
     if !card::is_port(count, p) {
-        return Request {
-            asking: false,
-            required: 0,
-            preferred: 0,
-            transaction: 0,
-        };
+        return Request::default();
     }
     request_in(x)
 }
@@ -61,12 +54,7 @@ fn request_in(x: Port) -> Request
     ensures { result ≡ open_request_in x }
 {
     if !x.asking {
-        return Request {
-            asking: false,
-            required: 0,
-            preferred: 0,
-            transaction: 0,
-        };
+        return Request::default();
     }
     Request {
         asking: true,

@@ -1,64 +1,59 @@
+use Prim.Native.Nat.{ℕ}
+use mathlib.Core.Path.{◌≡◌}
+use native.Mathlib.Omega.{arith}
 use lib.ListN.{length}
 use borrow.Author.Tests.{ne_eqb}
-use Rattle.pool.specs.declared.Pool.{Pool}
-use Rattle.pool.specs.Pool.{pool_of}
-use Rattle.card.specs.Cards.{Areas, no_areas, with_pool, with_areas}
+use Rattle.card.specs.Cards.{no_areas, with_pool, with_areas}
 use Rattle.card.proofs.Parts.{areas_kept, areas_as}
 use Rattle.demand3.specs.Calls.{outcome_of}
 use Rattle.calls.specs.Calls.{hosted}
 use Rattle.calls.proofs.Cases.{of_number}
 use Rattle.calls.proofs.host_in.Goals as goal
 
-pub returns-then-call-eq-PORT_UP : goal.returns-then-call-eq-PORT_UP
+pub returns-in-0 : goal.returns-in-0
 unfolding outcome_of hosted
-returns-then-call-eq-PORT_UP c =
-    let maps : Pool = pool_of c.args.owner.now c.args.channel.now c.args.charged.now c.args.accounting.now in
-    let areas : Areas = no_areas in
+returns-in-0 c =
     let a = c.args in
-    areas_as (areas_kept (c.port_up_in.ensures maps a.reply.now) areas)
-    (λ card t. of_number (with_areas (with_pool card maps) areas) a.ids.now a.channels.now a.entries.now a.call (length a.reply.now) 0 c.if-call-eq-PORT_UP.true)
+    areas_as (areas_kept (c.port_up_in.ensures a.pool.now a.reply.now) no_areas)
+    (λ card t. of_number (with_areas (with_pool card a.pool.now) no_areas) a.ids.now a.channels.now a.entries.now a.call (length a.reply.now) 0 c.in-0.is)
 
-pub returns-then-call-eq-PORT_DOWN : goal.returns-then-call-eq-PORT_DOWN
+pub returns-in-1 : goal.returns-in-1
 unfolding outcome_of hosted
-returns-then-call-eq-PORT_DOWN c =
-    let maps : Pool = pool_of c.args.owner.now c.args.channel.now c.args.charged.now c.args.accounting.now in
-    let areas : Areas = no_areas in
+returns-in-1 c =
     let a = c.args in
-    areas_as (areas_kept (c.port_down_in.ensures maps a.reply.now) areas)
-    (λ card t. of_number (with_areas (with_pool card maps) areas) a.ids.now a.channels.now a.entries.now a.call (length a.reply.now) 1 c.if-call-eq-PORT_DOWN.true)
+    areas_as (areas_kept (c.port_down_in.ensures a.reply.now) no_areas)
+    (λ card t. of_number (with_areas (with_pool card a.pool.now) no_areas) a.ids.now a.channels.now a.entries.now a.call (length a.reply.now) 1 c.in-1.is)
 
-pub returns-then-call-eq-SET_DELEGATION : goal.returns-then-call-eq-SET_DELEGATION
+pub returns-in-2 : goal.returns-in-2
 unfolding outcome_of hosted
-returns-then-call-eq-SET_DELEGATION c =
-    let maps : Pool = pool_of c.args.owner.now c.args.channel.now c.args.charged.now c.args.accounting.now in
-    let areas : Areas = no_areas in
+returns-in-2 c =
     let a = c.args in
-    areas_as (areas_kept (c.set_delegation_in.ensures a.accounting.now a.reply.now) areas)
-    (λ card t. of_number (with_areas (with_pool card maps) areas) a.ids.now a.channels.now a.entries.now a.call (length a.reply.now) 2 c.if-call-eq-SET_DELEGATION.true)
+    areas_as (areas_kept (c.set_delegation_in.ensures a.reply.now) no_areas)
+    (λ card t. of_number (with_areas (with_pool card a.pool.now) no_areas) a.ids.now a.channels.now a.entries.now a.call (length a.reply.now) 2 c.in-2.is)
 
-pub returns-then-call-eq-JOIN : goal.returns-then-call-eq-JOIN
+pub returns-in-3 : goal.returns-in-3
 unfolding outcome_of hosted
-returns-then-call-eq-JOIN c =
-    let maps : Pool = pool_of c.args.owner.now c.args.channel.now c.args.charged.now c.args.accounting.now in
-    let areas : Areas = no_areas in
+returns-in-3 c =
     let a = c.args in
-    areas_as (areas_kept c.join_in.ensures areas)
-    (λ card t. of_number (with_areas (with_pool card maps) areas) a.ids.now a.channels.now a.entries.now a.call (length a.reply.now) 3 c.if-call-eq-JOIN.true)
+    areas_as (areas_kept c.join_in.ensures no_areas)
+    (λ card t. of_number (with_areas (with_pool card a.pool.now) no_areas) a.ids.now a.channels.now a.entries.now a.call (length a.reply.now) 3 c.in-3.is)
 
-pub returns-then-call-eq-LEAVE : goal.returns-then-call-eq-LEAVE
+pub returns-in-4 : goal.returns-in-4
 unfolding outcome_of hosted
-returns-then-call-eq-LEAVE c =
-    let maps : Pool = pool_of c.args.owner.now c.args.channel.now c.args.charged.now c.args.accounting.now in
-    let areas : Areas = no_areas in
+returns-in-4 c =
     let a = c.args in
-    areas_as (areas_kept (c.leave_in.ensures a.charged.now a.accounting.now a.reply.now) areas)
-    (λ card t. of_number (with_areas (with_pool card maps) areas) a.ids.now a.channels.now a.entries.now a.call (length a.reply.now) 4 c.if-call-eq-LEAVE.true)
+    areas_as (areas_kept (c.leave_in.ensures a.reply.now) no_areas)
+    (λ card t. of_number (with_areas (with_pool card a.pool.now) no_areas) a.ids.now a.channels.now a.entries.now a.call (length a.reply.now) 4 c.in-4.is)
 
 -- the last of them: the number is none of the others
-pub returns : goal.returns
+pub returns-in_default : goal.returns-in_default
 unfolding outcome_of hosted
-returns c =
-    let maps : Pool = pool_of c.args.owner.now c.args.channel.now c.args.charged.now c.args.accounting.now in
-    let areas : Areas = no_areas in
-    areas_as (areas_kept (c.ask_in.ensures maps) areas)
-    (λ card t. rw (ne_eqb _ 0 c.if-call-eq-PORT_UP.false, ne_eqb _ 1 c.if-call-eq-PORT_DOWN.false, ne_eqb _ 2 c.if-call-eq-SET_DELEGATION.false, ne_eqb _ 3 c.if-call-eq-JOIN.false, ne_eqb _ 4 c.if-call-eq-LEAVE.false))
+returns-in_default c =
+    let which : ℕ = c.args.call.which in
+    let n0 : which ≡ 0 → ⊥ = λ z. omega arith in
+    let n1 : which ≡ 1 → ⊥ = λ z. omega arith in
+    let n2 : which ≡ 2 → ⊥ = λ z. omega arith in
+    let n3 : which ≡ 3 → ⊥ = λ z. omega arith in
+    let n4 : which ≡ 4 → ⊥ = λ z. omega arith in
+    areas_as (areas_kept (c.ask_in.ensures c.args.pool.now) no_areas)
+    (λ card t. rw (ne_eqb which 0 n0, ne_eqb which 1 n1, ne_eqb which 2 n2, ne_eqb which 3 n3, ne_eqb which 4 n4))
