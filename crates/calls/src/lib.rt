@@ -27,6 +27,7 @@ pub const ASK: u8 = 5;
 pub const MESSAGE: u8 = 255;
 
 // Which call, with its arguments. `amount` is the delegation that is set, or what is required when the host asks.
+// A number and no enum for the call: C's `ancp_call` has these fields (layout_call).
 #[repr(C)]
 #[derive(Clone, Copy)]
 pub struct HostCall {

@@ -57,6 +57,7 @@ pub struct Terms {
 
 // What a call on the parts of a card gives: the call's number, how many octets of reply are written, the head after it,
 // and what becomes of the port's record.
+// The number is no error: C's `ancp_answer` and the definitions' `Outcome` have 0 to 15 for every call (CARD.md).
 #[repr(C)]
 #[derive(Clone, Copy)]
 pub struct Effect {
@@ -66,7 +67,7 @@ pub struct Effect {
     pub change: Change,
 }
 
-// What a start gives: a core, and its number.
+// What a start gives: a core, and its number. No Result: a refused start gives a core too (`start_of`, `StartGives`).
 #[repr(C)]
 #[derive(Clone, Copy)]
 pub struct Fresh {

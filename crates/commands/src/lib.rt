@@ -13,6 +13,7 @@ use flows::Flow;
 use pool::Pool;
 
 // On the port at the terms' place. Where the command fails, the error is its result code, which is never 0.
+// An error is a number of the wire, and no enum: the definitions' `Ran` and a reply's Result have every code.
 pub fn run_command(
     pool: &mut Pool,
     channels: &[u32; 2816],

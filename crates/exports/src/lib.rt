@@ -60,6 +60,7 @@ pub fn ancp_port_fresh_in(x: &mut Port)
     x.transaction = 0;
 }
 
+// Four maps, and no &mut Pool: exports_c hands on what C lends apart.
 pub fn ancp_pool_fresh_in(
     owner: &mut [u8; 512],
     channel: &mut [u8; 512],
