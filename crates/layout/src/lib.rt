@@ -89,18 +89,12 @@ pub extern "C" fn layout_call(
 ) -> HostCall
     ensures { result ≡ record { which = which; port = port; amount = amount; preferred = preferred; flow = record { family = family; sourced = sourced; group = replicate 4 group; source = replicate 4 source } } }
 {
-    let flow = Flow {
-        family,
-        sourced,
-        group: [group; 4],
-        source: [source; 4],
-    };
     HostCall {
         which,
         port,
         amount,
         preferred,
-        flow,
+        flow: layout_flow(family, sourced, group, source),
     }
 }
 
