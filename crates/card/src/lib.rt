@@ -164,11 +164,11 @@ fn fresh_core(
     }
 }
 
-#[tactic(auto, unfolding(crate::specs::Start::first_ok, octets::specs::Tests::every))]
+#[tactic(auto, unfolding(crate::specs::Start::first_ok, numbers::specs::Numbers::is_number))]
 pub fn first_ok(first: u32) -> bool
     ensures { result ≡ first_ok first }
 {
-    1 <= first && first <= 16777215
+    numbers::is_number(first)
 }
 
 #[tactic(auto, unfolding(crate::specs::Cards::is_port, octets::specs::Tests::every))]

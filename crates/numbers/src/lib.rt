@@ -4,13 +4,11 @@
 ghost use Rattle.std.specs.Prelude.{◌≡◌};
 ghost use Rattle.numbers.specs.Numbers.{is_number, after_of, Counted};
 
+#[tactic(auto, unfolding(crate::specs::Numbers::is_number, octets::specs::Tests::every))]
 pub fn is_number(n: u32) -> bool
     ensures { result ≡ is_number n }
 {
-    if n < 1 {
-        return false;
-    }
-    n <= 16777215
+    1 <= n && n <= 16777215
 }
 
 // The number `by` places after `number`; 0 where `number` is no transaction number.

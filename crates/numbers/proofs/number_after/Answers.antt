@@ -1,8 +1,5 @@
-use mathlib.Core.Path.{◌≡◌, sym, ◌∙◌}
-use mathlib.Core.Bool.{true}
+use mathlib.Core.Path.{sym, ◌∙◌}
 use borrow.Author.Rules.{rules}
-use borrow.Author.Tests.{not-true, not-false}
-use Rattle.numbers.specs.Numbers.{is_number}
 use Rattle.numbers.proofs.Answers.{number_range, after_none, after_low, after_high}
 use Rattle.numbers.proofs.number_after.Goals as goal
 

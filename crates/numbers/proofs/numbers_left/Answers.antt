@@ -1,10 +1,9 @@
-use mathlib.Core.Path.{◌≡◌, sym, ◌∙◌}
-use mathlib.Core.Bool.{true}
+use mathlib.Core.Path.{sym, ◌∙◌}
 use mathlib.Core.Logic.{inl, inr}
 use native.Mathlib.Omega.{arith}
 use borrow.Author.Rules.{rules}
-use borrow.Author.Tests.{not-true, not-false, le-leb, lt-leb}
-use Rattle.numbers.specs.Numbers.{is_number, numbers_left}
+use borrow.Author.Tests.{le-leb, lt-leb}
+use Rattle.numbers.specs.Numbers.{numbers_left}
 use Rattle.numbers.proofs.Answers.{number_range, left-none, left_at}
 use Rattle.numbers.proofs.numbers_left.Goals as goal
 
