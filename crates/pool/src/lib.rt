@@ -5,7 +5,7 @@
 ghost use Rattle.std.specs.Prelude.{◌≡◌, ◌+◌, ◌<◌, ◌≤◌, false, []};
 ghost use Rattle.sums.specs.Sums.{map_to};
 ghost use Rattle.channels.specs.Channels.{is_row};
-ghost use Rattle.pool.specs.Pool.{Next, records_in, count_in, committed_in, active_in, active_where, extras_in, free_in, room_in, fresh_pool, began, has_flow, is_active, ended_flow, ended_all, accounted, rows_in, as_rows, state_in};
+ghost use Rattle.pool.specs.Pool.{Next, records_in, count_in, committed_in, active_in, active_where, extras_in, free_in, room_in, fresh_pool, began, has_flow, is_active, ended_flow, ended_all, accounted, rows_in, as_rows, no_state, state_in};
 
 use channels::{channel_at, rate_at};
 use flows::{Flow, same_flow};
@@ -50,6 +50,14 @@ pub struct FlowState {
     pub active: bool,
     pub charged: bool,
     pub accounting: u8,
+}
+
+impl FlowState {
+    pub fn none() -> FlowState
+        ensures { result ≡ no_state }
+    {
+        FlowState::default()
+    }
 }
 
 impl Pool {
@@ -176,7 +184,7 @@ pub fn state_of<'a>(
             };
         }
     }
-    FlowState::default()
+    FlowState::none()
 }
 
 // The rates of the port's charged flows.

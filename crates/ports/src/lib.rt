@@ -6,7 +6,7 @@ ghost use Rattle.ports.specs.Ports.{fresh_port, closed, brought_up, taken_down, 
 ghost use Rattle.ports.specs.Transactions.{taken_from};
 
 // asking: a request is open, with its figures and its transaction number.
-// A flag with its values beside it, and no Option: C's `struct ancp_port` has these fields (layout_core).
+// A flag with its values beside it, and no Option: C's `ancp_port` has these fields (layout_core).
 #[repr(C)]
 #[derive(Clone, Copy, Default)]
 pub struct Port {

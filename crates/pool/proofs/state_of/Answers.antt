@@ -53,5 +53,5 @@ pub returns : goal.returns
 returns c =
     let a = c.args in
     let first = c.loop-i.invariant.1 ∙ end-first c.in-None.ensures.steps.0 (of_channel a.channel.now a.k) in
-    let all = gives a.owner.now a.channel.now a.charged.now a.accounting.now a.p a.k {found = None} (search rules) (sym first) in
+    let all = gives a.owner.now a.channel.now a.charged.now a.accounting.now a.p a.k {found = None} c.none.ensures (sym first) in
     record { state = all.0; active = all.1 }
