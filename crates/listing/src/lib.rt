@@ -1,7 +1,7 @@
 #![tactic(auto)]
 
 // A port's active flows in order of family, group, source (none first).
-ghost use Rattle.std.specs.Prelude.{◌≡◌, Bool, List, [], ℕ, ◌+◌, ◌<◌, take};
+ghost use Rattle.std.specs.Prelude.{◌≡◌, Bool, List, ℕ, ◌+◌, ◌<◌, take};
 ghost use Rattle.octets.specs.Writing.{over};
 ghost use Rattle.pool.specs.Pool.{as_rows, rows_in, pool_of};
 ghost use Rattle.listing.specs.Listing.{row_before, placed, Listed, rows_in_order};
@@ -19,21 +19,11 @@ pub fn rows_in_order<'a>(
     ensures order { Listed channels.now (take 16 (rows_in owner.now channel.now p)) }
 {
     let found = pool::rows_of(owner, channel, p);
-    let mut done = no_rows();
+    let mut done = Rows::none();
     for k in &found.rows[..found.count] {
         done = place(channels, done, *k);
     }
     done
-}
-
-#[tactic(auto, unfolding(pool::specs::Pool::as_rows, octets::specs::Writing::over))]
-fn no_rows() -> Rows
-    ensures { result ≡ as_rows [] }
-{
-    Rows {
-        count: 0,
-        rows: [0u8; 16],
-    }
 }
 
 // Row k among those that are in order: of the two at each place the one that goes first stays, and the other goes on.

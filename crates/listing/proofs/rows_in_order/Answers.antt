@@ -13,7 +13,7 @@ pub shared_ref_as_front-k-items : goal.shared_ref_as_front-k-items
 shared_ref_as_front-k-items c = found_few (rows_in c.args.owner.now c.args.channel.now c.args.p) c.rows_of-found.ensures
 
 pub loop-k-init : goal.loop-k-init
-loop-k-init c = c.no_rows-done.ensures ∙ ordered-start (row_before c.args.channels.now) c.rows_of-found.result.rows
+loop-k-init c = c.none-done.ensures ∙ ordered-start (row_before c.args.channels.now) c.rows_of-found.result.rows
 
 pub place-done-requires : goal.place-done-requires
 place-done-requires c =
