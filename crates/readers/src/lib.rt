@@ -31,7 +31,7 @@ pub fn delegation(x: Port, count: usize, p: usize) -> u32
 }
 
 // asking: a request is open, with its figures and its transaction number. Else these are 0.
-// A flag with its values beside it, and no Option: C's `struct ancp_request` has these fields (layout_core).
+// A flag with its values beside it, and no Option: C's `ancp_request` has these fields (ancp_card_request_in).
 #[repr(C)]
 #[derive(Clone, Copy, Default)]
 pub struct Request {
@@ -93,10 +93,7 @@ pub fn flows_of<'a>(
     ensures { (card : Card) (charged : List Bool) (accounting : List ℕ) → card.head.port_count ≡ count → result ≡ as_rows (flows_at channels.now (with_pool card (pool_of owner.now channel.now charged accounting)) p) }
 {
     if !card::is_port(count, p) {
-        return Rows {
-            count: 0,
-            rows: [0u8; 16],
-        };
+        return Rows::none();
     }
     listing::rows_in_order(channels, owner, channel, p as u8)
 }
@@ -114,11 +111,7 @@ pub fn row_state<'a>(
     ensures { (card : Card) → card.head.port_count ≡ count → result ≡ row_state_at (with_pool card (pool_of owner.now channel.now charged.now accounting.now)) p k }
 {
     if !card::is_port(count, p) {
-        return FlowState {
-            active: false,
-            charged: false,
-            accounting: 0,
-        };
+        return FlowState::none();
     }
     pool::state_of(owner, channel, charged, accounting, p as u8, k)
 }
@@ -139,19 +132,11 @@ pub fn flow_state<'a>(
     ensures active { (card : Card) → card.head.port_count ≡ count → card.head.channel_count ≡ channel_count → result.active ≡ active_at channels.now (with_pool card (pool_of owner.now channel.now charged.now accounting.now)) p f }
 {
     if !card::is_port(count, p) {
-        return FlowState {
-            active: false,
-            charged: false,
-            accounting: 0,
-        };
+        return FlowState::none();
     }
     let found = channels::channel_of(channels, channel_count, f);
     match found {
-        None => FlowState {
-            active: false,
-            charged: false,
-            accounting: 0,
-        },
+        None => FlowState::none(),
         Some(k) => pool::state_of(owner, channel, charged, accounting, p as u8, k),
     }
 }

@@ -9,8 +9,8 @@ use Rattle.readers.proofs.Parts.{is_port_lem, not_port}
 use Rattle.readers.proofs.flows_of.Goals as goal
 
 pub returns-then-not-is_port : goal.returns-then-not-is_port
-unfolding flows_at as_rows over
-returns-then-not-is_port c card charged accounting h = ap as_rows (left _ _ [] (not_port card _ _ h c.is_port.ensures.test c.if-not-is_port.true))
+unfolding flows_at
+returns-then-not-is_port c card charged accounting h = c.none.ensures ∙ ap as_rows (left _ _ [] (not_port card _ _ h c.is_port.ensures.test c.if-not-is_port.true))
 
 pub overflow_cast-p : goal.overflow_cast-p
 overflow_cast-p c = omega (arith, c.is_port.ensures.inside (c.if-not-is_port.false))

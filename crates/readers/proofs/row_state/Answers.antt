@@ -7,7 +7,7 @@ use Rattle.readers.proofs.row_state.Goals as goal
 
 pub returns-then-not-is_port : goal.returns-then-not-is_port
 unfolding row_state_at
-returns-then-not-is_port c card h = left _ _ _ (not_port card _ _ h c.is_port.ensures.test c.if-not-is_port.true)
+returns-then-not-is_port c card h = c.none.ensures ∙ left _ _ _ (not_port card _ _ h c.is_port.ensures.test c.if-not-is_port.true)
 
 pub overflow_cast-p : goal.overflow_cast-p
 overflow_cast-p c = omega (arith, c.is_port.ensures.inside (c.if-not-is_port.false))
