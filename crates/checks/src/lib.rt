@@ -16,6 +16,7 @@ use header::Header;
 use tlv::First;
 
 // The port whose circuit id stands in the message's Target; 64 where it is no port's.
+// A number, and no Option: the terms' place is it (HasTerms), and the definition `named_in` tells 64 from 65.
 pub fn port_named(ids: &[u8; 4096], port_count: usize, tlvs: &[u8]) -> usize
     ensures { result ≡ port_named ids.now port_count tlvs.now }
 {
@@ -26,7 +27,7 @@ pub fn port_named(ids: &[u8; 4096], port_count: usize, tlvs: &[u8]) -> usize
 }
 
 // What the rows give: the port that the message names, which is up; or the result code of the row that refuses the
-// message. A code is a number: `put_refused` answers any.
+// message. The error is a number, and no enum: the contract of `put_refused` and the reply's octets speak of every code.
 // `named` is what `port_named` gave, and `up` tells whether that port is up; then the fields of the header that the rows
 // read, one by one: a struct would be stored to be read again.
 pub fn check_table(

@@ -27,6 +27,7 @@ pub fn rows_in_order<'a>(
 }
 
 // Row k among those that are in order: of the two at each place the one that goes first stays, and the other goes on.
+// `Rows` is a count and an array, and no slice: a host reads it as such (`Rows` of the C interface).
 fn place(channels: &[u32; 2816], done: Rows, k: u8) -> Rows
     requires { done.count < 16 }
     ensures count { result.count ≡ done.count + 1 }

@@ -13,15 +13,14 @@ use pool::Pool;
 use ports::Change;
 
 // The port that a message's Target names, or 64; 65 where size or header is wrong, and then nothing after the header
-// is looked at.
+// is looked at. A number, and no Option of an Option: calls passes it on as the place of the terms (HasTerms).
 pub fn port_named(ids: &[u8; 4096], port_count: usize, octets: &[u8]) -> usize
     ensures { result ≡ named_in ids.now port_count octets.now }
 {
     if !header::size_ok(octets) {
         return 65;
     }
-    let head = header::read_header(octets);
-    match head {
+    match header::read_header(octets) {
         None => 65,
         Some(_) => checks::port_named(ids, port_count, &octets[16..]),
     }
@@ -102,7 +101,7 @@ fn is_notice(h: Header) -> bool
     h.kind == 144 && h.result == 0
 }
 
-// An answer to a request of the card's own. Whatever the maps and the buffer hold.
+// An answer to a request of the card's own. Whatever the pool and the buffer hold.
 fn offered(terms: Terms, p: usize, h: Header, tlvs: &[u8]) -> Effect
     ensures { (ids : List ℕ) (pool : Pool) (text : List ℕ) → p ≡ port_named ids terms.head.port_count tlvs.now → ComesTo (λ card. offered card h tlvs.now (table_of ids card h tlvs.now)) p terms pool pool result text text }
 {
@@ -116,7 +115,7 @@ fn offered(terms: Terms, p: usize, h: Header, tlvs: &[u8]) -> Effect
     }
 }
 
-// 15, and 16 for a port's faults.
+// 15, and 16 for a port's faults. The number is the call's own, which the C interface gives back.
 #[tactic(auto, unfolding(crate::specs::Messages::refused_number))]
 fn refused_number(code: u16) -> u8
     ensures { result ≡ refused_number code }

@@ -12,7 +12,7 @@ use header::Header;
 use pool::Pool;
 use ports::Change;
 
-// Whatever the maps hold.
+// Whatever the pool holds.
 pub fn query_delegation(ids: &[u8; 4096], terms: Terms, h: Header, reply: &mut [u8]) -> Effect
     requires { (4608 ≤ length reply.old) × (terms.at < 64) }
     ensures { (pool : Pool) → ComesTo (λ card. delegation_query ids.now card h terms.at) terms.at terms pool pool result reply.old reply.new }

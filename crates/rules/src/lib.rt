@@ -150,7 +150,8 @@ pub fn extent_of(kind: u8, tlvs: &[u8]) -> Option<usize>
     extent_by(rules_of(kind), tlvs)
 }
 
-// A rule is `seen` once a TLV of its type has stood.
+// A rule is `seen` once a TLV of its type has stood. Steps of a reader, and no iterator over the TLVs: the answer is a
+// place in the octets, which an iterator does not give.
 fn extent_by(rules: &[Rule], tlvs: &[u8]) -> Option<usize>
     requires { length rules.now ≤ 4 }
     ensures { HasExtent rules.now tlvs.now result }

@@ -76,7 +76,7 @@ fn give(ids: &[u8; 4096], terms: Terms, h: Header, amount: u32, reply: &mut [u8]
     card::changed(terms, Change::Delegated(amount), n)
 }
 
-// Whatever the maps hold.
+// Whatever the pool holds.
 pub fn transfer(terms: Terms, h: Header, amount: u32) -> Effect
     ensures { (pool : Pool) (text : List ℕ) → ComesTo (λ card. transferred card h terms.at amount) terms.at terms pool pool result text text }
 {

@@ -22,10 +22,10 @@ pub returns-in-None : goal.returns-in-None
 returns-in-None c =
     let size : size_ok c.args.octets.now ≡ true = sym c.size_ok.ensures ∙ c.if-not-size_ok.false in
     let a = c.args in
-    named_unusable a.ids.now a.port_count a.octets.now size (sym c.read_header-head.ensures ∙ c.in-None.is)
+    named_unusable a.ids.now a.port_count a.octets.now size (sym c.read_header.ensures ∙ c.in-None.is)
 
 pub returns-in-Some : goal.returns-in-Some
 returns-in-Some c =
     let size : size_ok c.args.octets.now ≡ true = sym c.size_ok.ensures ∙ c.if-not-size_ok.false in
     let a = c.args in
-    c.port_named.ensures ∙ ap (port_named a.ids.now a.port_count) (rest_part 16 a.octets.now) ∙ named_usable a.ids.now a.port_count a.octets.now size (sym c.read_header-head.ensures ∙ c.in-Some.is)
+    c.port_named.ensures ∙ ap (port_named a.ids.now a.port_count) (rest_part 16 a.octets.now) ∙ named_usable a.ids.now a.port_count a.octets.now size (sym c.read_header.ensures ∙ c.in-Some.is)
