@@ -87,6 +87,7 @@ impl Pool {
     }
 
     // Leave and Delete: the port's flow with this address ends, whoever began it. The answer is whether there was one.
+    // `while`, and no iterator: the walk writes the map that it reads, which an iterator would hold borrowed.
     pub fn end(&mut self, channels: &[u32; 2816], p: u8, f: Flow) -> bool
         ensures was { result ≡ has_flow channels.now self.old p f }
         ensures ends { self.new ≡ ended_flow channels.now self.old p f }
@@ -104,7 +105,7 @@ impl Pool {
         found
     }
 
-    // Delete All, and port down.
+    // Delete All, and port down. `while` as in `end`.
     pub fn end_all(&mut self, p: u8)
         ensures { self.new ≡ ended_all self.old p }
     {
