@@ -1,6 +1,7 @@
 #![tactic(auto)]
 
-// The messages that the card begins, written into a lent buffer.
+// The messages that the card begins, written into a lent buffer. As in replies::put_amount, the content's writer is no
+// closure.
 ghost use Rattle.std.specs.Prelude.{◌≡◌, ◌++◌, ◌≤◌, ◌<◌, length};
 ghost use Rattle.octets.specs.Writing.{Wrote};
 ghost use Rattle.writers.specs.Tlvs.{target_of, command_of, request_of};

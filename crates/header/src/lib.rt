@@ -7,7 +7,8 @@ ghost use Rattle.octets.specs.Writing.{over};
 ghost use Rattle.header.specs.Bits.{result_of, code_of, result_and_code, i_bit_of, submessage_of, i_bit_and_submessage};
 ghost use Rattle.header.specs.Header.{size_ok, usable, header_in, head_in, header_of};
 
-// What a header says beside what every usable one says alike.
+// What a header says beside what every usable one says alike. Numbers, and no enums: any type, Result and code is read
+// (header_in).
 #[repr(C)]
 #[derive(Clone, Copy)]
 pub struct Header {

@@ -5,7 +5,8 @@ ghost use Rattle.std.specs.Prelude.{◌≡◌, ◌++◌, ◌+◌, ◌*◌, ◌�
 ghost use Rattle.octets.specs.Numbers.{be8, be16, be24, be32, oct8, oct16, oct24, oct32, padded};
 ghost use Rattle.octets.specs.Writing.{over};
 
-// The readers that may be asked past the end, where an octet counts as 0: one of 8 bits, and at a place near the start of 16 and 32.
+// The readers that may be asked past the end, where an octet counts as 0: one of 8 bits, and at a place near the start
+// of 16 and 32.
 pub fn read8(s: &[u8], at: usize) -> u8
     ensures { result ≡ be8 s.now at }
 {
@@ -31,7 +32,8 @@ pub fn number32(s: &[u8], at: u8) -> u32
     ])
 }
 
-// Those that may not.
+// Those that may not. One for each width, and none for all: a trait over u16 and u32 with a cut for 24 bits is longer
+// than these lines.
 pub fn read16(s: &[u8], at: usize) -> u16
     requires { at + 2 ≤ length s.now }
     ensures { result ≡ be16 s.now at }

@@ -1,7 +1,7 @@
 #![tactic(auto)]
 
-// A reader that remembers its place in the message. Its methods are thin: each leaves the work to a function of crate items
-// on slice and place.
+// A reader that remembers its place in the message. Its methods are thin: each leaves the work to a function of crate
+// items on slice and place.
 ghost use Rattle.std.specs.Prelude.{◌≡◌};
 ghost use Rattle.items.specs.Place.{tlv_at};
 ghost use Rattle.reader.specs.Reader.{reader_at, advanced, step_at};
@@ -39,7 +39,8 @@ impl<'a> Reader<'a> {
     }
 }
 
-// One read: what stood at the reader's place, and the place that it has then.
+// One read: what stood at the reader's place, and the place that it has then. No item of an iterator: its callers
+// answer with a place.
 #[derive(Clone, Copy)]
 pub struct Step {
     pub first: First,

@@ -49,8 +49,9 @@ pub fn put_refusal(reply: &mut [u8], h: Header, code: u16, n: usize)
     writers::put_status(&mut reply[16..], h.kind, n);
 }
 
-// Here and below: no function that takes the writer of the content as a closure. Its clauses (where the closure may be called, that it
-// writes the same octets over any buffer, how many at most) would be longer than the two lines that it saves.
+// Here and below: no function that takes the writer of the content as a closure. Its clauses (where the closure may be
+// called, that it writes the same octets over any buffer, how many at most) would be longer than the two lines that it
+// saves.
 pub fn put_amount(
     reply: &mut [u8],
     h: Header,

@@ -68,6 +68,8 @@ pub fn check_list(s: &[u8], depth: u8, bare: bool) -> bool
         return s.is_empty();
     }
     let mut t = s;
+
+    // A loop, and no iterator of TLVs: one that gives only TLVs doesn't tell the end from a broken length.
     loop {
         match first_tlv(t) {
             First::End => return true,

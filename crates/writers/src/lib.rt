@@ -1,7 +1,7 @@
 #![tactic(auto)]
 
-// Writers of TLVs. Each writes over the start of the buffer that it is lent, keeps what lies after it, and returns how many octets it wrote,
-// so that the rest of the buffer can be lent to the next writer.
+// Writers of TLVs. Each writes over the start of the buffer that it is lent, keeps what lies after it, and returns how
+// many octets it wrote, so that the rest of the buffer can be lent to the next writer.
 ghost use Rattle.std.specs.Prelude.{◌≡◌, ◌+◌, ◌≤◌, ◌<◌, length};
 ghost use Rattle.octets.specs.Numbers.{padded};
 ghost use Rattle.octets.specs.Writing.{over, Wrote};
@@ -88,7 +88,8 @@ pub fn put_flow(
     4 + p
 }
 
-// The head of a holder before n octets of TLVs, which stand after it already.
+// The head of a holder before n octets of TLVs, which stand after it already. Two functions: put_head is the one that
+// both are, and each has its own head in the clauses of its callers.
 pub fn put_status(buf: &mut [u8], kind: u8, n: usize)
     requires { (8 ≤ length buf.old) × (n < 65532) }
     ensures { buf.new ≡ over (status_head kind n) buf.old }
