@@ -7,8 +7,8 @@
 use Rattle.std.proofs.Common.{◌≡◌, ℕ, zero, suc, ◌+◌, ◌-◌, ◌<◌, ◌≤◌, Bool, true, false, cond, ◌&&◌, eqb, Option, Some, None, List, [], ◌∷◌, ◌++◌, map, length, take, drop, get_or, All, refl, sym, ap, subst, ◌∙◌, arith}
 use Rattle.std.proofs.lemmas.List.{append-nil, map-append, length-take, length-drop, get_or-take, get_or-drop}
 use borrow.Author.Tests.{eqb-true, eq-eqb}
-use Rattle.memchr.specs.Find.{is_byte, places_from, places, Passes, Nowhere, NoneBefore}
-use Rattle.memchr.proofs.lemmas.PlaceLemmas.{places_from-append}
+use Rattle.memchr.specs.Find.{is_byte, places_from, places_between, places, Passes, Nowhere, NoneBefore}
+use Rattle.memchr.proofs.lemmas.PlaceLemmas.{places_from-append, places_between-first, places_between-none}
 use Rattle.memchr.proofs.lemmas.CallerLemmas.{All-places}
 use Rattle.rows.specs.Rows.{first_from, first_row}
 use Rattle.sums.specs.Sums.{pick_to, sum_by}
@@ -65,7 +65,7 @@ module _ (owner : List ℕ) (p : ℕ) where
   abbrev picked : ℕ → List ℕ
   picked n = pick_to n (is_of owner p) (λ i. i)
 
-  places_are : (n : ℕ) → places_from (is_byte p) owner 0 n ≡ picked n
+  pub places_are : (n : ℕ) → places_from (is_byte p) owner 0 n ≡ picked n
   unfolding places_from pick_to
   places_are zero = refl
   places_are (suc n) =
@@ -196,3 +196,16 @@ module _ (owner : List ℕ) (p from : ℕ) (h : from ≤ 512) (size : length own
         has = λ m. absurd (omega arith);
         others = λ j l m e. not-before (512 - from) (omega arith) (subst (Nowhere (Passes (is_byte p) rest) 0) length-rest none) j l (omega arith) e;
       }
+
+-- ---- what is left of a port's records
+module _ (owner : List ℕ) (p at : ℕ) {i : ℕ} (n : Next owner p at i) where
+  unseen : Nowhere (Passes (is_byte p) owner) at i
+  unseen j l m e = n.others j l m (eqb-true _ _ e)
+
+  -- the next record goes first, and those from the one behind it on are left
+  pub left_first : i < 512 → places_between (is_byte p) owner at 512 ≡ i ∷ places_between (is_byte p) owner (i + 1) 512
+  left_first l =
+      places_between-first (is_byte p) owner at 512 i (record { low = n.reached; high = l; before = unseen }) (eq-eqb _ _ (n.has l))
+
+  pub left_none : at ≤ 512 → 512 ≤ i → places_between (is_byte p) owner at 512 ≡ []
+  left_none h l = places_between-none (is_byte p) owner at 512 h (λ j low high. unseen j low (omega (arith, n.most)))

@@ -2,14 +2,17 @@
 
 // The 512 flow records: which port each belongs to, its channel, whether it is charged, and its accounting.
 // No figure is stored: counts, extras and committed amounts are read off the records.
-ghost use Rattle.std.specs.Prelude.{◌≡◌, ◌+◌, ◌<◌, ◌≤◌, false, []};
+ghost use Rattle.std.specs.Prelude.{◌≡◌, ℕ, ◌+◌, ◌<◌, ◌≤◌, false, List, []};
+ghost use Rattle.std.specs.Iterator.{item_count};
+ghost use Rattle.memchr.specs.Find.{TakesFirst, is_byte, places_between};
 ghost use Rattle.sums.specs.Sums.{map_to};
 ghost use Rattle.channels.specs.Channels.{is_row};
 ghost use Rattle.pool.specs.Pool.{Next, records_in, count_in, committed_in, active_in, active_where, extras_in, free_in, room_in, fresh_pool, began, has_flow, is_active, ended_flow, ended_all, accounted, rows_in, as_rows, no_state, state_in};
 
 use channels::{channel_at, rate_at};
 use flows::{Flow, same_flow};
-use memchr::{Memchr, memchr, memchr_iter};
+use memchr::memchr;
+use std::marker::Model;
 
 // No port has this number: a record with it as its owner is free.
 pub const FREE: u8 = 255;
@@ -137,19 +140,52 @@ impl Pool {
 
 // ---- figures, read off maps that are lent
 
-// The numbers of the port's records, in order.
-fn records<'a>(owner: &'a [u8; 512], p: u8) -> Memchr<'a>
+// A port's records from record `at` on, seen as the list of their numbers.
+#[derive(Drop)]
+struct PortRecords<'a> {
+    owner: &'a [u8; 512],
+    p: u8,
+    at: usize,
+}
+
+impl<'a> Model for PortRecords<'a> {
+    ghost Value = { List ℕ };
+
+    ghost view = { λ it. places_between (is_byte it.p) it.owner.now it.at 512 };
+
+    ghost invariant = { λ it. it.at ≤ 512 };
+}
+
+impl<'a> Iterator for PortRecords<'a> {
+    type Item = usize;
+
+    ghost next_gives = { TakesFirst };
+
+    ghost remaining = { item_count (λ rest. rest) };
+
+    fn next(&mut self) -> Option<usize> {
+        let i = next_of(self.owner, self.p, self.at);
+        if 512 <= i {
+            self.at = 512;
+            return None;
+        }
+        self.at = i + 1;
+        Some(i)
+    }
+}
+
+// All of the port's records, in order.
+fn records<'a>(owner: &'a [u8; 512], p: u8) -> PortRecords<'a>
     ensures { result ≡ records_in owner.now p }
 {
-    memchr_iter(p, owner)
+    PortRecords { owner, p, at: 0 }
 }
 
 // How many flows the port has.
 pub fn active_count(owner: &[u8; 512], p: u8) -> usize
     ensures { result ≡ count_in owner.now p }
 {
-    // The trait's count, from find to find: Memchr's own looks at each octet apart.
-    Iterator::count(records(owner, p))
+    records(owner, p).count()
 }
 
 // The port has the flow of channel k.
@@ -270,6 +306,10 @@ fn next_of(owner: &[u8; 512], p: u8, from: usize) -> usize
     requires { from ≤ 512 }
     ensures { Next owner.now p from result }
 {
+    // Flows of a port often stand together: the record at hand is looked at before the search.
+    if from < 512 && owner[from] == p {
+        return from;
+    }
     match memchr(p, &owner[from..]) {
         Some(i) => from + i,
         None => 512,
