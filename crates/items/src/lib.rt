@@ -70,7 +70,11 @@ pub fn first_of(s: &[u8], kind: u16) -> &[u8]
 pub fn tlv_at(s: &[u8], at: usize) -> First
     ensures { result ≡ tlv_at s.now at }
 {
-    tlv::first_tlv(s.get(at..).unwrap_or(&[]))
+    // By the length, and no get: with an option of the rest each header was read twice, and a long walk took a third more.
+    if s.len() < at {
+        return First::End;
+    }
+    tlv::first_tlv(&s[at..])
 }
 
 pub fn content_at(s: &[u8], at: usize) -> &[u8]
