@@ -35,7 +35,7 @@ pub struct Core {
 }
 
 // What a call on a core by value returns: the core after it, the call's number, and how many octets of reply
-// are written.
+// are written. The number is as in `Effect`.
 #[repr(C)]
 #[derive(Clone, Copy)]
 pub struct Returned {
@@ -46,7 +46,8 @@ pub struct Returned {
 
 // What a call asks of the card besides the pool and the areas: the head, and of a call about one port that
 // port's record, which lies at `at` in the table. A call about no port or about several does not look at it, and keeps
-// it.
+// it. That `at` is below 64 is a clause where it is asked, and no invariant: `commands::run_command` asks for 256 alone,
+// and the host's calls for nothing.
 #[repr(C)]
 #[derive(Clone, Copy)]
 pub struct Terms {
@@ -116,7 +117,7 @@ pub fn start(
     }
 }
 
-// The number of a start, whatever its switches: 0, or 14.
+// The number of a start, whatever its switches: 0, or 14, as C is given it (`ancp_card_start_number`).
 #[tactic(auto, unfolding(crate::specs::Start::start_of, octets::specs::Tests::every))]
 pub fn start_number(
     ids: &[u8; 4096],

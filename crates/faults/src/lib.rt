@@ -77,6 +77,7 @@ fn fault_at(table: u8, row: usize, field: u8) -> Fault
 
 // ---- circuit ids
 
+// This walk over a table and the two below: one over a closure would be as long as each.
 fn ports_fault(ids: &[u8; 4096], n: usize) -> Result<(), Fault>
     ensures { Refuses (table_checks 1 64 n (port_checks ids.now)) result }
 {

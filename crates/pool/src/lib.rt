@@ -294,7 +294,8 @@ fn counts_of(owner: &[u8; 512]) -> [u16; 64]
     counts
 }
 
-// The first free record, or 512.
+// The first free record, or 512: no option, since `free_in` has that number where none is free, and `began` and
+// `room_in` stand on it.
 fn free_of(owner: &[u8; 512]) -> usize
     ensures { result ≡ free_in owner.now }
 {

@@ -140,14 +140,11 @@ pub struct Taken {
 
 impl Counter {
     // The number for the next message that the card begins, and the counter after it.
-    pub fn take(self) -> Taken
+    pub fn take(mut self) -> Taken
         ensures { result ≡ taken_from self }
     {
         let number = self.number;
-        let next = if number < 16777215 { number + 1 } else { 1 };
-        Taken {
-            number,
-            next: Counter { number: next },
-        }
+        self.number = if number < 16777215 { number + 1 } else { 1 };
+        Taken { number, next: self }
     }
 }

@@ -1,7 +1,8 @@
 #![tactic(auto)]
 
 // What a host may read of its card, where it lies: a reader is lent the maps that it looks at, and takes one port's
-// record by value. Each tests its port's number. Its contract speaks of every card with these parts.
+// record by value. Each tests its port's number. Its contract speaks of every card with these parts. The maps come apart,
+// and not as a pool: so C lends them (`ancp_card_committed_in` and the others).
 ghost use Rattle.std.specs.Prelude.{◌≡◌, Bool, List, ℕ};
 ghost use Rattle.pool.specs.Pool.{pool_of, as_rows};
 ghost use Rattle.card.specs.Cards.{Card, with_pool};

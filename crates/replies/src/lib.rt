@@ -1,6 +1,8 @@
 #![tactic(auto)]
 
-// Whole replies, written into a lent buffer: what a header counts is written first, in its place after the header.
+// Whole replies, written into a lent buffer: what a header counts is written first, in its place after the header. The
+// buffer is a slice, its room in a clause, and no array of 4,608: it may be longer, and `Wrote` speaks of all of it. So
+// is a circuit id, and no type of 63 octets: `put_amount` takes up to 4,096.
 ghost use Rattle.std.specs.Prelude.{◌≡◌, ◌++◌, ◌+◌, ◌≤◌, ◌<◌, length};
 ghost use Rattle.octets.specs.Writing.{over, Wrote};
 ghost use Rattle.writers.specs.Tlvs.{target_of, allocation_of};
