@@ -24,6 +24,14 @@ module _ {t : ℕ} (i : Item) (is : List Item) where
   unfolding count_of
   count_miss h = rw (of_miss h)
 
+  pub from_hit : i.kind ≡ t → from_type t (i ∷ is) ≡ i ∷ is
+  unfolding from_type
+  from_hit h = rw (eq-eqb i.kind t h)
+
+  pub from_miss : (i.kind ≡ t → ⊥) → from_type t (i ∷ is) ≡ from_type t is
+  unfolding from_type
+  from_miss h = rw (ne_eqb i.kind t h)
+
 -- the content of the first TLV of any type
 abbrev pub head_content : List Item → List ℕ
 head_content [] = []

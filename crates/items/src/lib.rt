@@ -2,7 +2,7 @@
 
 // Walks over the TLVs of a list, each of which hands out parts of the message.
 ghost use Rattle.std.specs.Prelude.{◌≡◌};
-ghost use Rattle.items.specs.Items.{items_of, count_of, first_of};
+ghost use Rattle.items.specs.Items.{items_of, count_of, first_of, from_type};
 ghost use Rattle.items.specs.Walk.{item_at, items_left};
 ghost use Rattle.std.specs.Iterator.{YieldsFirstBy, item_count};
 ghost use Rattle.items.specs.Place.{tlv_at, place_after, content_at};
@@ -54,6 +54,21 @@ pub fn count_of(s: &[u8], kind: u16) -> usize
     ensures { result ≡ count_of kind (items_of s.now) }
 {
     Tlvs::of(s).filter(|t| t.kind == kind).count()
+}
+
+// The part from the first TLV of a type on: where a list of that type is walked, its next TLV stands first there. A loop:
+// an iterator's find does not give the rest of the list.
+pub fn from_type(s: &[u8], kind: u16) -> &[u8]
+    ensures { items_of result.now ≡ from_type kind (items_of s.now) }
+{
+    let mut t = s;
+    loop {
+        match tlv::first_tlv(t) {
+            First::End | First::Broken => return t,
+            First::Tlv { kind: k, .. } if k == kind => return t,
+            First::Tlv { size, .. } => t = &t[size..],
+        }
+    }
 }
 
 // The content of the first TLV of a type; empty where there is none.
