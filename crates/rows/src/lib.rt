@@ -11,10 +11,13 @@ pub fn next_row<F: Fn(usize) -> bool>(passes: F, rows: usize, from: usize) -> Op
     requires callable { (i : ℕ) → i < rows → F.pre passes i }
     ensures { NextRow (λ i b. F.post passes i b) rows from result }
 {
-    if from < rows && passes(from) {
+    if rows <= from {
+        return None;
+    }
+    if passes(from) {
         return Some(from);
     }
-    let mut i = from;
+    let mut i = from + 1;
     while rows - i >= 8 && none_of(&passes, i, 8) {
         i += 8;
     }
