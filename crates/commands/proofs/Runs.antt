@@ -23,20 +23,20 @@ use Rattle.card.proofs.Parts.{channels_are, record_is}
 use Rattle.joins.specs.Joins.{AsLent, admit_number}
 use Rattle.commands.specs.Directives.{Directive, directive_of}
 use Rattle.commands.specs.Directives.Directive.{malformed, add, delete, delete_all}
-use Rattle.commands.specs.Commands.{Ran, fails, succeeds, add_new, add_row, delete_flow, carried_out, ran_of, ran_with, code_of, Runs}
+use Rattle.commands.specs.Commands.{Ran, fails, succeeds, add_new, add_row, delete_flow, carried_out, ran_of, ran_with, command_code, Runs}
 
 module _ {ran : Card → Ran} {terms : Terms} {before after : Pool} where
   pub runs_ok : {y : Pool} → after ≡ y → ((card : Card) → HasTerms card terms.at terms → ran_with card y 0 ≡ ran (with_pool card before))
       → Runs ran terms before after (Ok tt)
-  unfolding code_of
+  unfolding command_code
   runs_ok e f =
       record { each = λ card h. sym (ap (λ (z : Pool). ran_with card z 0) e ∙ f card h); fails = λ s z. absurd (false≢true (ap is_err s)) }
 
   pub runs_err : (code : ℕ) → (code ≡ 0 → ⊥) → {y : Pool} → after ≡ y → ((card : Card) → HasTerms card terms.at terms → ran_with card y code ≡ ran (with_pool card before))
       → Runs ran terms before after (Err code)
-  unfolding code_of
+  unfolding command_code
   runs_err code n e f =
-      record { each = λ card h. sym (ap (λ (z : Pool). ran_with card z code) e ∙ f card h); fails = λ s z. n (ap code_of s ∙ z) }
+      record { each = λ card h. sym (ap (λ (z : Pool). ran_with card z code) e ∙ f card h); fails = λ s z. n (ap command_code s ∙ z) }
 
   pub runs_as : {other : Card → Ran} {r : Result ⊤ ℕ} → Runs other terms before after r
       → ((card : Card) → HasTerms card terms.at terms → other (with_pool card before) ≡ ran (with_pool card before)) → Runs ran terms before after r

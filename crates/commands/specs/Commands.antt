@@ -59,12 +59,12 @@ abbrev pub ran_with : Card → Pool → ℕ → Ran
 ran_with card pool code = record { card = with_pool card pool; code = code }
 
 -- the result code that an answer stands for: 0 for success
-unfoldable pub code_of : Result ⊤ ℕ → ℕ
-code_of (Ok done) = 0
-code_of (Err code) = code
+unfoldable pub command_code : Result ⊤ ℕ → ℕ
+command_code (Ok done) = 0
+command_code (Err code) = code
 
 -- a function that was lent the pool `before`, left it as `after` and answered r: on every card with these terms and this pool
 -- that is what `ran` comes to; a command that fails has a result code, and not success's
 pub record Runs (ran : Card → Ran) (terms : Terms) (before after : Pool) (r : Result ⊤ ℕ) : Type 0 where
-  pub each : (card : Card) → HasTerms card terms.at terms → ran (with_pool card before) ≡ ran_with card after (code_of r)
+  pub each : (card : Card) → HasTerms card terms.at terms → ran (with_pool card before) ≡ ran_with card after (command_code r)
   pub fails : {code : ℕ} → r ≡ Err code → code ≡ 0 → ⊥

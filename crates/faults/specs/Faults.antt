@@ -42,9 +42,9 @@ pub record NamesFault (cs : List Check) (r : Fault) : Type 0 where
   pub whole : eqb r.table 0 ≡ all_pass cs
 
 -- what a check of these tests answers: an error is what the first that fails names, and its table is not 0
-abbrev pub Refuses : {U : Type 0} → List Check → Result U Fault → Type 0
-Refuses cs (Ok u) = NamesFault cs no_fault
-Refuses cs (Err f) = NamesFault cs f × (eqb f.table 0 ≡ false)
+abbrev pub Tested : {U : Type 0} → List Check → Result U Fault → Type 0
+Tested cs (Ok u) = NamesFault cs no_fault
+Tested cs (Err f) = NamesFault cs f × (eqb f.table 0 ≡ false)
 
 -- ---- the tests of a row. Tables: 1 ports, 2 channels, 3 list entries, 4 the first number
 

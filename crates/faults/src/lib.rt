@@ -3,7 +3,7 @@
 // Why start refuses its tables or its first number (number 14): the first test that fails, by table, row and field.
 ghost use Rattle.std.specs.Prelude.{◌≡◌, Bool, ◌<◌, eqb};
 ghost use Rattle.card.specs.Start.{start_of};
-ghost use Rattle.faults.specs.Faults.{NamesFault, Refuses, fault_at, port_checks, channel_checks, entry_checks, table_checks, start_checks};
+ghost use Rattle.faults.specs.Faults.{NamesFault, Tested, fault_at, port_checks, channel_checks, entry_checks, table_checks, start_checks};
 
 use channels::{channel_at, channel_of, rate_at};
 use circuits::{id_at, port_of};
@@ -58,7 +58,7 @@ fn checked(
     entry_count: usize,
     first: u32,
 ) -> Result<(), Fault>
-    ensures { Refuses (start_checks ids.now ports channels.now channel_count entries.now entry_count first) result }
+    ensures { Tested (start_checks ids.now ports channels.now channel_count entries.now entry_count first) result }
 {
     ports_fault(ids, ports)?;
     channels_fault(channels, channel_count)?;
@@ -79,7 +79,7 @@ fn fault_at(table: u8, row: usize, field: u8) -> Fault
 
 // This walk over a table and the two below: one over a closure would be as long as each.
 fn ports_fault(ids: &[u8; 4096], n: usize) -> Result<(), Fault>
-    ensures { Refuses (table_checks 1 64 n (port_checks ids.now)) result }
+    ensures { Tested (table_checks 1 64 n (port_checks ids.now)) result }
 {
     if 64 < n {
         return Err(fault_at(1, 0, 1));
@@ -92,7 +92,7 @@ fn ports_fault(ids: &[u8; 4096], n: usize) -> Result<(), Fault>
 
 fn port_fault(ids: &[u8; 4096], p: u8) -> Result<(), Fault>
     requires { p < 64 }
-    ensures { Refuses (port_checks ids.now p) result }
+    ensures { Tested (port_checks ids.now p) result }
 {
     let at = p as usize;
     let length = ids[at * 64];
@@ -111,7 +111,7 @@ fn port_fault(ids: &[u8; 4096], p: u8) -> Result<(), Fault>
 // ---- channels
 
 fn channels_fault(channels: &[u32; 2816], n: usize) -> Result<(), Fault>
-    ensures { Refuses (table_checks 2 256 n (channel_checks channels.now)) result }
+    ensures { Tested (table_checks 2 256 n (channel_checks channels.now)) result }
 {
     if 256 < n {
         return Err(fault_at(2, 0, 1));
@@ -123,7 +123,7 @@ fn channels_fault(channels: &[u32; 2816], n: usize) -> Result<(), Fault>
 }
 
 fn channel_fault(channels: &[u32; 2816], i: u8) -> Result<(), Fault>
-    ensures { Refuses (channel_checks channels.now i) result }
+    ensures { Tested (channel_checks channels.now i) result }
 {
     let at = i as usize;
     let rate = rate_at(channels, i);
@@ -152,7 +152,7 @@ fn channel_fault(channels: &[u32; 2816], i: u8) -> Result<(), Fault>
 // ---- list entries
 
 fn entries_fault(entries: &[u32; 1536], n: usize) -> Result<(), Fault>
-    ensures { Refuses (table_checks 3 128 n (entry_checks entries.now)) result }
+    ensures { Tested (table_checks 3 128 n (entry_checks entries.now)) result }
 {
     if 128 < n {
         return Err(fault_at(3, 0, 1));
@@ -165,7 +165,7 @@ fn entries_fault(entries: &[u32; 1536], n: usize) -> Result<(), Fault>
 
 fn entry_fault(entries: &[u32; 1536], i: usize) -> Result<(), Fault>
     requires { i < 128 }
-    ensures { Refuses (entry_checks entries.now i) result }
+    ensures { Tested (entry_checks entries.now i) result }
 {
     let e = entry_at(entries, i);
     if !known_family(e.family) {

@@ -7,19 +7,19 @@ use native.Mathlib.Omega.{arith}
 use Rattle.std.specs.Prelude.{Result, Ok, Err, is_err, ⊤}
 use Rattle.joins.specs.declared.Refusal.{Refusal}
 use Rattle.joins.specs.declared.Refusal.TheVariants.{NoRoom, OverDelegation}
-use Rattle.joins.specs.Joins.{refused_number, number_of}
+use Rattle.joins.specs.Joins.{refusal_number, admission_number}
 
-pub never_0 : (r : Refusal) → refused_number r ≡ 0 → ⊥
-unfolding refused_number
+pub never_0 : (r : Refusal) → refusal_number r ≡ 0 → ⊥
+unfolding refusal_number
 never_0 NoRoom z = omega arith
 never_0 OverDelegation z = omega arith
 
-pub refused_not : (r : Result ⊤ Refusal) → is_err r ≡ true → number_of r ≡ 0 → ⊥
-unfolding number_of
+pub refused_not : (r : Result ⊤ Refusal) → is_err r ≡ true → admission_number r ≡ 0 → ⊥
+unfolding admission_number
 refused_not (Ok done) e z = absurd (false≢true e)
 refused_not (Err refusal) e z = never_0 refusal z
 
-pub admitted_0 : (r : Result ⊤ Refusal) → is_err r ≡ false → number_of r ≡ 0
-unfolding number_of
+pub admitted_0 : (r : Result ⊤ Refusal) → is_err r ≡ false → admission_number r ≡ 0
+unfolding admission_number
 admitted_0 (Ok done) e = refl
 admitted_0 (Err refusal) e = absurd (false≢true (sym e))

@@ -26,13 +26,13 @@ unfoldable pub admit_number : List ℕ → Card → Bool → ℕ → ℕ → ℕ
 admit_number channels card cac p k = cond (has_room card.pool p) (cond cac (cond (fits channels card p k) 0 4) 0) 5
 
 -- what a refusal is in numbers, and what admission answers: 0 where it admits
-unfoldable pub refused_number : Refusal → ℕ
-refused_number NoRoom = 5
-refused_number OverDelegation = 4
+unfoldable pub refusal_number : Refusal → ℕ
+refusal_number NoRoom = 5
+refusal_number OverDelegation = 4
 
-unfoldable pub number_of : Result ⊤ Refusal → ℕ
-number_of (Ok done) = 0
-number_of (Err refusal) = refused_number refusal
+unfoldable pub admission_number : Result ⊤ Refusal → ℕ
+admission_number (Ok done) = 0
+admission_number (Err refusal) = refusal_number refusal
 
 -- the card's pool has this one's owners, channels and charges, and port p this delegation: what admission asks for
 pub record AsLent (card : Card) (pool : Pool) (p amount : ℕ) : Type 0 where

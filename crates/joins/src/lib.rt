@@ -4,7 +4,7 @@
 ghost use Rattle.std.specs.Prelude.{◌≡◌, List, ℕ, ◌≤◌, ◌<◌, length, Some};
 ghost use Rattle.card.specs.Cards.{Card};
 ghost use Rattle.card.specs.Parts.{ComesTo};
-ghost use Rattle.joins.specs.Joins.{fits, admit_number, refused_number, number_of, AsLent, white_of, grey_of, join_row, join_of};
+ghost use Rattle.joins.specs.Joins.{fits, admit_number, refusal_number, admission_number, AsLent, white_of, grey_of, join_row, join_of};
 ghost use Rattle.joins.specs.Asks.{asked_of, ask_of};
 
 use card::{CardHead, Effect, Terms, unchanged};
@@ -22,9 +22,9 @@ pub enum Refusal {
 
 impl Refusal {
     // The number of a join that is so refused.
-    #[tactic(auto, unfolding(crate::specs::Joins::refused_number))]
+    #[tactic(auto, unfolding(crate::specs::Joins::refusal_number))]
     pub fn number(self) -> u8
-        ensures { result ≡ refused_number self }
+        ensures { result ≡ refusal_number self }
     {
         match self {
             Refusal::NoRoom => 5,
@@ -116,7 +116,7 @@ pub fn admit(
     p: u8,
     k: u8,
 ) -> Result<(), Refusal>
-    ensures { (card : Card) → AsLent card pool.now p delegation → number_of result ≡ admit_number channels.now card cac p k }
+    ensures { (card : Card) → AsLent card pool.now p delegation → admission_number result ≡ admit_number channels.now card cac p k }
 {
     if !pool::has_room(&pool.owner, p) {
         return Err(Refusal::NoRoom);

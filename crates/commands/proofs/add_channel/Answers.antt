@@ -6,7 +6,7 @@ use Rattle.pool.specs.Pool.{is_active, began}
 use Rattle.card.specs.Cards.{Card, with_pool}
 use Rattle.card.specs.Parts.{HasTerms}
 use Rattle.card.proofs.Parts.{add_is}
-use Rattle.joins.specs.Joins.{admit_number, number_of}
+use Rattle.joins.specs.Joins.{admit_number, admission_number}
 use Rattle.joins.proofs.Refusals.{refused_not, admitted_0}
 use Rattle.commands.specs.Commands.{succeeds}
 use Rattle.commands.proofs.Rows.{add-active, add-refused, add-begins}
@@ -24,7 +24,7 @@ returns-then-is_err c =
     let a = c.args in
     let idle : is_active a.pool.now a.terms.at a.k ≡ false = sym c.account.ensures.is ∙ c.if-account.false in
     let kept = c.account.ensures.none c.if-account.false in
-    let admitted : (card : Card) → HasTerms card a.terms.at a.terms → number_of c.admit.result ≡ admit_number a.channels.now (with_pool card a.pool.now) card.head.add_cac a.terms.at a.k =
+    let admitted : (card : Card) → HasTerms card a.terms.at a.terms → admission_number c.admit.result ≡ admit_number a.channels.now (with_pool card a.pool.now) card.head.add_cac a.terms.at a.k =
     (λ card h.
     c.admit.ensures (with_pool card a.pool.now) (lent_as kept (terms_lent h a.pool.now))
     ∙ ap (λ (b : Bool). admit_number a.channels.now (with_pool card a.pool.now) b a.terms.at a.k) (sym (add_is h))) in
@@ -38,7 +38,7 @@ returns c =
     let cac : Bool = a.terms.head.add_cac in
     let idle : is_active a.pool.now p a.k ≡ false = sym c.account.ensures.is ∙ c.if-account.false in
     let kept = c.account.ensures.none c.if-account.false in
-    let admitted : (card : Card) → HasTerms card p a.terms → number_of c.admit.result ≡ admit_number a.channels.now (with_pool card a.pool.now) card.head.add_cac p a.k =
+    let admitted : (card : Card) → HasTerms card p a.terms → admission_number c.admit.result ≡ admit_number a.channels.now (with_pool card a.pool.now) card.head.add_cac p a.k =
     (λ card h.
     c.admit.ensures (with_pool card a.pool.now) (lent_as kept (terms_lent h a.pool.now))
     ∙ ap (λ (b : Bool). admit_number a.channels.now (with_pool card a.pool.now) b a.terms.at a.k) (sym (add_is h))) in

@@ -11,7 +11,7 @@ use Rattle.pool.specs.declared.Pool.{Pool}
 use Rattle.card.specs.Cards.{Card, with_pool}
 use Rattle.card.specs.Outcome.{Outcome}
 use Rattle.card.proofs.Ends.{ends_as}
-use Rattle.commands.specs.Commands.{ran_of, ran_with, code_of}
+use Rattle.commands.specs.Commands.{ran_of, ran_with, command_code}
 use Rattle.commands.proofs.Runs.{runs_kept}
 use Rattle.control.specs.Control.{commands_from, wrote}
 use Rattle.control.proofs.Commands.{from_none, from_next, from_fail, commands_end, commands_miss, commands_hit}
@@ -29,7 +29,7 @@ loop-t-init c =
     )
 
 pub returns-in-Err : goal.returns-in-Err
-unfolding code_of
+unfolding command_code
 returns-in-Err c =
     let a = c.args in
     let x = c.loop-t in
@@ -40,7 +40,7 @@ returns-in-Err c =
     record {
       each =
           λ card t.
-          let ran : ran_with card left c.in-Err.code ≡ ran_of a.channels.now (with_pool card x.pool) a.terms.at c.in-Some.t.content.now = sym (c.run_command.ensures.each card t ∙ ap (λ (r : Result ⊤ ℕ). ran_with card left (code_of r)) c.in-Err.is) in
+          let ran : ran_with card left c.in-Err.code ≡ ran_of a.channels.now (with_pool card x.pool) a.terms.at c.in-Some.t.content.now = sym (c.run_command.ensures.each card t ∙ ap (λ (r : Result ⊤ ℕ). ran_with card left (command_code r)) c.in-Err.is) in
           let same : left ≡ x.pool = runs_kept _ card _ _ x.pool left (sym ran) failed in
           ends_from x.invariant.2
           (ends-written (with_pool card x.pool) c.put_failure.ensures
@@ -49,7 +49,7 @@ returns-in-Err c =
     }
 
 pub loop-t-preserved-then-t-eq-COMMAND : goal.loop-t-preserved-then-t-eq-COMMAND
-unfolding code_of
+unfolding command_code
 loop-t-preserved-then-t-eq-COMMAND c =
     let a = c.args in
     let x = c.loop-t in
@@ -60,7 +60,7 @@ loop-t-preserved-then-t-eq-COMMAND c =
       (subst (Fit (length a.tlvs.now)) step x.invariant.1).1,
       x.invariant.2,
       λ card t.
-          let ran : ran_with card after 0 ≡ ran_of a.channels.now (with_pool card x.pool) a.terms.at c.in-Some.t.content.now = sym (c.run_command.ensures.each card t ∙ ap (λ (r : Result ⊤ ℕ). ran_with card after (code_of r)) c.in_default.is) in
+          let ran : ran_with card after 0 ≡ ran_of a.channels.now (with_pool card x.pool) a.terms.at c.in-Some.t.content.now = sym (c.run_command.ensures.each card t ∙ ap (λ (r : Result ⊤ ℕ). ran_with card after (command_code r)) c.in_default.is) in
           x.invariant.3 card t ∙ ap (run card) (commands_hit step c.if-t-eq-COMMAND.true) ∙ from_next _ _ _ _ _ _ _ _ ran refl,
     )
 

@@ -3,7 +3,7 @@ use mathlib.Core.Path.{◌≡◌, refl, sym, ap, subst}
 use lib.Dec.{eqb}
 use Rattle.faults.specs.declared.Fault.{Fault}
 use Rattle.std.specs.Prelude.{Err}
-use Rattle.faults.specs.Faults.{Refuses, table_checks, channel_checks}
+use Rattle.faults.specs.Faults.{Tested, table_checks, channel_checks}
 use Rattle.faults.proofs.Lists.{turn_start, turn_stop, turn_on, turn_end, names-many, names-rows}
 use Rattle.faults.proofs.channels_fault.Goals as goal
 
@@ -21,7 +21,7 @@ returns-in_err-channel_fault c =
     let rows = channel_checks a.channels.now in
     let n = c.in_err-channel_fault.ensures in
     let e : c.from_residual.result ≡ Err c.in_err-channel_fault.field-0.0 = search rules in
-    subst (λ r. Refuses (table_checks 2 256 a.n rows) r) (sym e)
+    subst (λ r. Tested (table_checks 2 256 a.n rows) r) (sym e)
     (names-rows 2 256 a.n rows c.if-n-gt256.false (turn_stop rows a.n c.loop-i.i c.loop-i.invariant c.loop-i-test.true n.0 n.1), n.1)
 
 pub loop-i-preserved : goal.loop-i-preserved

@@ -5,7 +5,7 @@ use mathlib.Core.Path.{◌≡◌, refl, sym, subst, ◌∙◌}
 use mathlib.Core.List.{List, [], ◌∷◌, ◌++◌}
 use Rattle.card.specs.Start.{first_ok}
 use Rattle.faults.specs.declared.Fault.{Fault}
-use Rattle.faults.specs.Faults.{Check, check, no_fault, NamesFault, Refuses, port_checks, channel_checks, entry_checks, table_checks, start_checks}
+use Rattle.faults.specs.Faults.{Check, check, no_fault, NamesFault, Tested, port_checks, channel_checks, entry_checks, table_checks, start_checks}
 use Rattle.faults.proofs.Lists.{Error, names-none, err-fails, names_on, names_stop, names-go}
 use Rattle.faults.proofs.checked.Goals as goal
 
@@ -49,19 +49,19 @@ pub returns-in_err-ports_fault : goal.returns-in_err-ports_fault
 returns-in_err-ports_fault c =
     let x = c.args in
     let e : c.from_residual.result ≡ Err c.in_err-ports_fault.field-0.0 = search rules in
-    subst (λ r. Refuses (All x.ids.now x.ports x.channels.now x.channel_count x.entries.now x.entry_count x.first) r) (sym e) (at-ports x.ids.now x.ports x.channels.now x.channel_count x.entries.now x.entry_count x.first c.in_err-ports_fault.ensures)
+    subst (λ r. Tested (All x.ids.now x.ports x.channels.now x.channel_count x.entries.now x.entry_count x.first) r) (sym e) (at-ports x.ids.now x.ports x.channels.now x.channel_count x.entries.now x.entry_count x.first c.in_err-ports_fault.ensures)
 
 pub returns-in_err-channels_fault : goal.returns-in_err-channels_fault
 returns-in_err-channels_fault c =
     let x = c.args in
     let e : c.from_residual-in_err-channels_fault.result ≡ Err c.in_err-channels_fault.field-0.0 = search rules in
-    subst (λ r. Refuses (All x.ids.now x.ports x.channels.now x.channel_count x.entries.now x.entry_count x.first) r) (sym e) (at-channels x.ids.now x.ports x.channels.now x.channel_count x.entries.now x.entry_count x.first c.in_ok-ports_fault.ensures c.in_err-channels_fault.ensures)
+    subst (λ r. Tested (All x.ids.now x.ports x.channels.now x.channel_count x.entries.now x.entry_count x.first) r) (sym e) (at-channels x.ids.now x.ports x.channels.now x.channel_count x.entries.now x.entry_count x.first c.in_ok-ports_fault.ensures c.in_err-channels_fault.ensures)
 
 pub returns-in_err-entries_fault : goal.returns-in_err-entries_fault
 returns-in_err-entries_fault c =
     let x = c.args in
     let e : c.from_residual-in_err-entries_fault.result ≡ Err c.in_err-entries_fault.field-0.0 = search rules in
-    subst (λ r. Refuses (All x.ids.now x.ports x.channels.now x.channel_count x.entries.now x.entry_count x.first) r) (sym e) (at-entries x.ids.now x.ports x.channels.now x.channel_count x.entries.now x.entry_count x.first c.in_ok-ports_fault.ensures c.in_ok-channels_fault.ensures c.in_err-entries_fault.ensures)
+    subst (λ r. Tested (All x.ids.now x.ports x.channels.now x.channel_count x.entries.now x.entry_count x.first) r) (sym e) (at-entries x.ids.now x.ports x.channels.now x.channel_count x.entries.now x.entry_count x.first c.in_ok-ports_fault.ensures c.in_ok-channels_fault.ensures c.in_err-entries_fault.ensures)
 
 pub returns-then-not-first_ok : goal.returns-then-not-first_ok
 returns-then-not-first_ok c =

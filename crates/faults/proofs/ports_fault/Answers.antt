@@ -3,7 +3,7 @@ use mathlib.Core.Path.{◌≡◌, refl, sym, ap, subst}
 use lib.Dec.{eqb}
 use Rattle.faults.specs.declared.Fault.{Fault}
 use Rattle.std.specs.Prelude.{Err}
-use Rattle.faults.specs.Faults.{Refuses, table_checks, port_checks}
+use Rattle.faults.specs.Faults.{Tested, table_checks, port_checks}
 use Rattle.faults.proofs.Lists.{turn_start, turn_stop, turn_on, turn_end, names-many, names-rows}
 use Rattle.faults.proofs.ports_fault.Goals as goal
 
@@ -21,7 +21,7 @@ returns-in_err-port_fault c =
     let rows = port_checks a.ids.now in
     let n = c.in_err-port_fault.ensures in
     let e : c.from_residual.result ≡ Err c.in_err-port_fault.field-0.0 = search rules in
-    subst (λ r. Refuses (table_checks 1 64 a.n rows) r) (sym e)
+    subst (λ r. Tested (table_checks 1 64 a.n rows) r) (sym e)
     (names-rows 1 64 a.n rows c.if-n-gt64.false (turn_stop rows a.n c.loop-i.i c.loop-i.invariant c.loop-i-test.true n.0 n.1), n.1)
 
 pub loop-i-preserved : goal.loop-i-preserved
