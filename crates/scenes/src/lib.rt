@@ -102,7 +102,8 @@ pub struct Answer {
 impl<'a> Card<'a> {
     // The card that a start gives, and its number.
     pub fn start(tables: &'a Tables, setting: Setting, first: u32) -> (Card<'a>, u8)
-        ensures { let s = start_of tables.now.ids setting.ports tables.now.channels setting.channels tables.now.entries setting.entries setting.white_cac setting.add_cac first in (result.0.core ≡ core_of s.card) × (result.1 ≡ s.number) }
+        ensures starts { let s = start_of tables.now.ids setting.ports tables.now.channels setting.channels tables.now.entries setting.entries setting.white_cac setting.add_cac first in (result.0.core ≡ core_of s.card) × (result.1 ≡ s.number) }
+        ensures tables { result.0.tables.now ≡ tables.now }
     {
         let fresh = card::start(
             &tables.ids,
@@ -126,6 +127,7 @@ impl<'a> Card<'a> {
     pub fn call(&mut self, call: HostCall, octets: &[u8], reply: &mut [u8]) -> Answer
         ensures call { CallGives (comes_to self.old.tables.now self.old.core (call_of call octets.now (length reply.old))) (record { core = self.new.core; number = result.number; length = result.length }) no_areas reply.old reply.new }
         ensures room { result.length ≤ length reply.new }
+        ensures tables { self.new.tables.now ≡ self.old.tables.now }
     {
         let t = self.tables;
         let done = calls::call(
@@ -148,13 +150,15 @@ impl<'a> Card<'a> {
     pub fn message(&mut self, octets: &[u8], reply: &mut [u8]) -> Answer
         ensures call { CallGives (comes_to self.old.tables.now self.old.core (message octets.now (length reply.old))) (record { core = self.new.core; number = result.number; length = result.length }) no_areas reply.old reply.new }
         ensures room { result.length ≤ length reply.new }
+        ensures tables { self.new.tables.now ≡ self.old.tables.now }
     {
         self.call(calls::on_port(calls::MESSAGE, 0, 0, 0), octets, reply)
     }
 
     // A call without octets, whose reply is not looked at; its number.
     fn numbered(&mut self, call: HostCall) -> u8
-        ensures { Gives (comes_to self.old.tables.now self.old.core (call_of call [] 4608)) self.new.core result }
+        ensures call { Gives (comes_to self.old.tables.now self.old.core (call_of call [] 4608)) self.new.core result }
+        ensures tables { self.new.tables.now ≡ self.old.tables.now }
     {
         let mut reply = [0u8; 4608];
         self.call(call, &[], &mut reply).number
@@ -162,42 +166,48 @@ impl<'a> Card<'a> {
 
     #[tactic(auto, unfolding(calls::specs::Calls::call_of, calls::specs::Calls::hosted))]
     pub fn up(&mut self, p: usize) -> u8
-        ensures { Gives (comes_to self.old.tables.now self.old.core (port_up p)) self.new.core result }
+        ensures call { Gives (comes_to self.old.tables.now self.old.core (port_up p)) self.new.core result }
+        ensures tables { self.new.tables.now ≡ self.old.tables.now }
     {
         self.numbered(calls::on_port(calls::PORT_UP, p, 0, 0))
     }
 
     #[tactic(auto, unfolding(calls::specs::Calls::call_of, calls::specs::Calls::hosted))]
     pub fn down(&mut self, p: usize) -> u8
-        ensures { Gives (comes_to self.old.tables.now self.old.core (port_down p)) self.new.core result }
+        ensures call { Gives (comes_to self.old.tables.now self.old.core (port_down p)) self.new.core result }
+        ensures tables { self.new.tables.now ≡ self.old.tables.now }
     {
         self.numbered(calls::on_port(calls::PORT_DOWN, p, 0, 0))
     }
 
     #[tactic(auto, unfolding(calls::specs::Calls::call_of, calls::specs::Calls::hosted))]
     pub fn set_delegation(&mut self, p: usize, amount: u32) -> u8
-        ensures { Gives (comes_to self.old.tables.now self.old.core (set_delegation p amount)) self.new.core result }
+        ensures call { Gives (comes_to self.old.tables.now self.old.core (set_delegation p amount)) self.new.core result }
+        ensures tables { self.new.tables.now ≡ self.old.tables.now }
     {
         self.numbered(calls::on_port(calls::SET_DELEGATION, p, amount, 0))
     }
 
     #[tactic(auto, unfolding(calls::specs::Calls::call_of, calls::specs::Calls::hosted))]
     pub fn join(&mut self, p: usize, flow: Flow) -> u8
-        ensures { Gives (comes_to self.old.tables.now self.old.core (join p flow 4608)) self.new.core result }
+        ensures call { Gives (comes_to self.old.tables.now self.old.core (join p flow 4608)) self.new.core result }
+        ensures tables { self.new.tables.now ≡ self.old.tables.now }
     {
         self.numbered(calls::on_flow(calls::JOIN, p, flow))
     }
 
     #[tactic(auto, unfolding(calls::specs::Calls::call_of, calls::specs::Calls::hosted))]
     pub fn leave(&mut self, p: usize, flow: Flow) -> u8
-        ensures { Gives (comes_to self.old.tables.now self.old.core (leave p flow)) self.new.core result }
+        ensures call { Gives (comes_to self.old.tables.now self.old.core (leave p flow)) self.new.core result }
+        ensures tables { self.new.tables.now ≡ self.old.tables.now }
     {
         self.numbered(calls::on_flow(calls::LEAVE, p, flow))
     }
 
     #[tactic(auto, unfolding(calls::specs::Calls::call_of, calls::specs::Calls::hosted))]
     pub fn ask(&mut self, p: usize, required: u32, preferred: u32) -> u8
-        ensures { Gives (comes_to self.old.tables.now self.old.core (ask p required preferred 4608)) self.new.core result }
+        ensures call { Gives (comes_to self.old.tables.now self.old.core (ask p required preferred 4608)) self.new.core result }
+        ensures tables { self.new.tables.now ≡ self.old.tables.now }
     {
         self.numbered(calls::on_port(calls::ASK, p, required, preferred))
     }
