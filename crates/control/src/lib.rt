@@ -12,9 +12,9 @@ ghost use Rattle.control.specs.Control.{failure_of, all_good, commands_from, com
 use card::{Effect, Terms};
 use fields::COMMAND;
 use header::Header;
-use items::Tlvs;
 use pool::Pool;
 use ports::Change;
+use reader::Reader;
 
 // The pool becomes that of the card afterwards; no port's record changes.
 pub fn control(
@@ -48,7 +48,7 @@ fn run_all(
     ensures { Controls (λ card. commands_from channels.now h id.now terms.at card 1 (commands_in tlvs.now)) terms pool.old pool.new result reply.old reply.new }
 {
     let mut seq: u32 = 1;
-    for t in Tlvs::of(tlvs) {
+    for t in Reader::new(tlvs, 0) {
         if t.kind == COMMAND {
             let c = t.content;
             if let Err(code) = commands::run_command(pool, channels, terms, c) {

@@ -5,8 +5,8 @@ use native.Mathlib.Omega.{arith}
 use lib.ListN.{length}
 use Rattle.std.specs.Prelude.{Result, ⊤}
 use Rattle.items.specs.Items.{Item, items_of, of_type}
-use Rattle.items.specs.Walk.{items_left}
 use Rattle.items.proofs.Items.{Fit, items_fit, items_fewer}
+use Rattle.reader.specs.Reader.{items_ahead}
 use Rattle.pool.specs.declared.Pool.{Pool}
 use Rattle.card.specs.Cards.{Card, with_pool}
 use Rattle.card.specs.Outcome.{Outcome}
@@ -21,7 +21,7 @@ use Rattle.control.proofs.run_all.Goals as goal
 pub loop-t-init : goal.loop-t-init
 loop-t-init c =
     let a = c.args in
-    let begun : items_left c.into_iter-t-iterator.result ≡ items_of a.tlvs.now = ap items_left c.into_iter-t-iterator.ensures.into_iter_gives ∙ c.of-t-items.ensures in (
+    let begun : items_ahead c.into_iter-t-iterator.result ≡ items_of a.tlvs.now = ap items_ahead (c.into_iter-t-iterator.ensures.into_iter_gives ∙ c.new-t-items.ensures) in (
       omega (arith, ap length begun, items_fewer a.tlvs.now),
       subst (Fit (length a.tlvs.now)) (sym begun) (items_fit a.tlvs.now),
       refl,
