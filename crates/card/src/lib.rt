@@ -2,6 +2,7 @@
 
 // The card: start; port up, port down, set delegation and leave, each on its parts.
 ghost use Rattle.std.specs.Prelude.{◌≡◌, Bool, true, List, ℕ, ◌<◌, length};
+ghost use Rattle.pool.specs.Pool.{with_owner};
 ghost use Rattle.card.specs.Cards.{Areas, no_areas, is_port, card_of};
 ghost use Rattle.card.specs.Calls.{port_up_of, port_down_of, set_delegation_of, leave_of};
 ghost use Rattle.card.specs.Parts.{done_with, returned_of, ComesTo};
@@ -243,8 +244,11 @@ pub fn port_up_in(terms: Terms, p: usize) -> Effect
     changed(terms, Change::BroughtUp, 0)
 }
 
+// Of the pool only the owners change, whatever the terms are.
+#[tactic(auto, unfolding(pool::specs::Pool::ended))]
 pub fn port_down_in(pool: &mut Pool, terms: Terms, p: usize) -> Effect
-    ensures { (text : List ℕ) → ComesTo (λ card. port_down_of card p) p terms pool.old pool.new result text text }
+    ensures comes { (text : List ℕ) → ComesTo (λ card. port_down_of card p) p terms pool.old pool.new result text text }
+    ensures rest { pool.new ≡ with_owner pool.old pool.new.owner }
 {
     if !is_port(terms.head.port_count, p) {
         return unchanged(terms, 7);
@@ -281,8 +285,11 @@ pub fn set_delegation_in(
     changed(terms, Change::Delegated(amount), 0)
 }
 
+// Of the pool only the owners change, as in `port_down_in`.
+#[tactic(auto, unfolding(pool::specs::Pool::ended))]
 pub fn leave_in(pool: &mut Pool, channels: &[u32; 2816], terms: Terms, p: usize, f: Flow) -> Effect
-    ensures { (text : List ℕ) → ComesTo (λ card. leave_of channels.now card p f) p terms pool.old pool.new result text text }
+    ensures comes { (text : List ℕ) → ComesTo (λ card. leave_of channels.now card p f) p terms pool.old pool.new result text text }
+    ensures rest { pool.new ≡ with_owner pool.old pool.new.owner }
 {
     if !is_port(terms.head.port_count, p) {
         return unchanged(terms, 7);

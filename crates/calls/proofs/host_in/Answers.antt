@@ -21,7 +21,7 @@ pub returns-in-1 : goal.returns-in-1
 unfolding outcome_of hosted
 returns-in-1 c =
     let a = c.args in
-    areas_as (areas_kept (c.port_down_in.ensures a.reply.now) no_areas)
+    areas_as (areas_kept (c.port_down_in.ensures.comes a.reply.now) no_areas)
     (λ card t. of_number (with_areas (with_pool card a.pool.now) no_areas) a.ids.now a.channels.now a.entries.now a.call (length a.reply.now) 1 c.in-1.is)
 
 pub returns-in-2 : goal.returns-in-2
@@ -42,7 +42,7 @@ pub returns-in-4 : goal.returns-in-4
 unfolding outcome_of hosted
 returns-in-4 c =
     let a = c.args in
-    areas_as (areas_kept (c.leave_in.ensures a.reply.now) no_areas)
+    areas_as (areas_kept (c.leave_in.ensures.comes a.reply.now) no_areas)
     (λ card t. of_number (with_areas (with_pool card a.pool.now) no_areas) a.ids.now a.channels.now a.entries.now a.call (length a.reply.now) 4 c.in-4.is)
 
 -- the last of them: the number is none of the others
