@@ -1,7 +1,8 @@
 -- The entry of the highest rank decides as the rule says, and how a loop finds it.
 --     cons_above, cons_same, cons_below    those with the longest prefix, with one entry more
 --     decision_is                          the decision is that of the highest rank, for any entries
---     turn_other, turn_match               one turn of the search for it
+--     turn_other, turn_raise, turn_low     one turn of the search for it
+--     above_lt, above_less                 the order that is derived for ranks is that of is_above
 -- Assumes nothing.
 use Prim.Native.Nat.{ℕ, zero, suc, ◌+◌, ◌≤◌, ◌<◌, max}
 use mathlib.Core.Path.{◌≡◌, refl, sym, ap, ap₂, ◌∙◌}
@@ -14,7 +15,7 @@ use borrow.Author.Tests.{eqb-true, eqb-false, eq-eqb, ne_eqb, leb-true, leb-fals
 use Rattle.std.specs.Prelude.{Some, None}
 use Rattle.std.specs.declared.cmp.Ordering.{Ordering}
 use Rattle.std.specs.declared.cmp.Ordering.TheVariants.{Less, Equal, Greater}
-use Rattle.std.specs.Ordering.{is_lt, nat_cmp, ordering_then, MatchOrdering, ord_max}
+use Rattle.std.specs.Ordering.{is_lt, nat_cmp, ordering_then, MatchOrdering, is_some_and, partial_lt}
 use Rattle.std.specs.Cmp.{ranks}
 use Rattle.octets.proofs.Tests.{false_by}
 use Rattle.flows.specs.declared.Flow.{Flow}
@@ -24,6 +25,8 @@ use Rattle.lists.specs.declared.Entry.{Entry}
 use Rattle.lists.specs.declared.Rank.{Rank}
 use Rattle.lists.specs.declared.Colour.TheVariants.{Black, Grey, White}
 use Rattle.lists.specs.contracts.RankOrd.TheImpl.{ghosts as ranked}
+use Rattle.lists.specs.contracts.RankOrd.TheImpl.Laws.{matches_partial_cmp-law}
+use Rattle.lists.specs.contracts.RankPartialOrd.TheImpl.{ghosts as partly}
 
 -- ---- those with the longest prefix, with one entry more
 module _ (length : Entry → ℕ) where
@@ -274,6 +277,10 @@ above_lt a b =
     (then_lt b.source_length a.source_length _
     ∙ ap (λ (t : Bool). cond (eqb a.source_length b.source_length) t (ltb b.source_length a.source_length)) (cmp_lt b.strength a.strength))
 
+-- what `b < a` tests
+pub above_less : (a b : Rank) → partial_lt partly.partial_cmp b a ≡ is_above a b
+above_less a b = ap (is_some_and is_lt) (matches_partial_cmp-law b a) ∙ above_lt a b
+
 -- ---- a loop that has passed the entries before i
 module _ (t : List ℕ) (f : Flow) (i : ℕ) (best : Rank) (inv : best ≡ highest (matching t f i)) where
   pub turn_other : entry_matches (entry_at t i) f ≡ false → best ≡ highest (matching t f (i + 1))
@@ -281,8 +288,14 @@ module _ (t : List ℕ) (f : Flow) (i : ℕ) (best : Rank) (inv : best ≡ highe
   turn_other m = rw (add-one, m) inv
 
   module _ (m : entry_matches (entry_at t i) f ≡ true) (e : Entry) (r : Rank) (he : e ≡ entry_at t i) (hr : r ≡ rank_of e) where
-    pub turn_match : ord_max rank_cmp r best ≡ highest (matching t f (i + 1))
+    turn_match : {b : Bool} → is_above r best ≡ b → cond b r best ≡ highest (matching t f (i + 1))
     unfolding matching highest
-    turn_match =
+    turn_match {b} a =
         let is : r ≡ rank_of (entry_at t i) = hr ∙ ap rank_of he in
-        rw (add-one, m) (ap (λ (c : Bool). cond c r best) (above_lt r best) ∙ ap₂ (λ (x y : Rank). cond (is_above x y) x y) is inv)
+        rw (add-one, m) (ap (λ (c : Bool). cond c r best) (sym a) ∙ ap₂ (λ (x y : Rank). cond (is_above x y) x y) is inv)
+
+    pub turn_raise : is_above r best ≡ true → r ≡ highest (matching t f (i + 1))
+    turn_raise a = turn_match a
+
+    pub turn_low : is_above r best ≡ false → best ≡ highest (matching t f (i + 1))
+    turn_low a = turn_match a

@@ -143,7 +143,11 @@ pub fn list_decision(entries: &[u32; 1536], n: usize, f: Flow) -> Option<Colour>
     };
     for i in 0..rows {
         if row_matches(entries, i, f) {
-            best = rank_of(entry_at(entries, i)).max(best);
+            let rank = rank_of(entry_at(entries, i));
+            // An if, and no max: with max each turn copies best, also for the entries that do not match.
+            if best < rank {
+                best = rank;
+            }
         }
     }
     decision_of(best.strength)

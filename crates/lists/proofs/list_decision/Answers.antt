@@ -6,8 +6,8 @@ use Rattle.lists.specs.Lists.{matching, list_decision}
 use Rattle.lists.specs.declared.Rank.{Rank}
 use Rattle.lists.specs.Ranks.{highest, decision_of}
 use Rattle.lists.proofs.Laws.{laws}
-use Rattle.lists.proofs.Ranks.{decision_is, turn_other, turn_match}
-use Rattle.lists.proofs.list_decision.Goals.{then-row_matches, else-row_matches}
+use Rattle.lists.proofs.Ranks.{decision_is, above_less, turn_other, turn_raise, turn_low}
+use Rattle.lists.proofs.list_decision.Goals.{then-row_matches+then-lt, then-row_matches+else-lt, else-row_matches}
 use Rattle.lists.proofs.list_decision.Goals as goal
 
 pub loop-i-init : goal.loop-i-init
@@ -21,7 +21,8 @@ loop-i-preserved c =
     let m = c.row_matches in
     let t = a.entries.now in
     elim c.if-row_matches.branch [
-      | then-row_matches w ↦ w.best-is ∙ w.max-best.ensures ∙ turn_match t a.f h.i h.best h.invariant (sym m.ensures ∙ w.if-row_matches.true) w.entry_at.result w.rank_of.result w.entry_at.ensures w.rank_of.ensures
+      | then-row_matches+then-lt w ↦ w.best-is ∙ turn_raise t a.f h.i h.best h.invariant (sym m.ensures ∙ w.if-row_matches.true) w.entry_at.result w.rank_of-rank.result w.entry_at.ensures w.rank_of-rank.ensures (sym (above_less w.rank_of-rank.result h.best) ∙ sym w.lt.ensures ∙ w.if-lt.true)
+      | then-row_matches+else-lt w ↦ w.best-is ∙ turn_low t a.f h.i h.best h.invariant (sym m.ensures ∙ w.if-row_matches.true) w.entry_at.result w.rank_of-rank.result w.entry_at.ensures w.rank_of-rank.ensures (sym (above_less w.rank_of-rank.result h.best) ∙ sym w.lt.ensures ∙ w.if-lt.false)
       | else-row_matches w ↦ w.best-is ∙ turn_other t a.f h.i h.best h.invariant (sym m.ensures ∙ w.if-row_matches.false)
     ]
 
