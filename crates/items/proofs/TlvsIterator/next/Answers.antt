@@ -18,10 +18,10 @@ pub slice_bounds-content-end : goal.slice_bounds-content-end
 slice_bounds-content-end c = omega (arith, tlv-fits _ c.first_tlv.ensures c.in-Tlv.is)
 
 pub slice_bounds-self-count : goal.slice_bounds-self-count
-slice_bounds-self-count c = (tlv-fits _ c.first_tlv.ensures c.in-Tlv.is).1
+slice_bounds-self-count c = omega (arith, tlv-fits _ c.first_tlv.ensures c.in-Tlv.is)
 
 pub slice_bounds-self-start : goal.slice_bounds-self-start
-slice_bounds-self-start c = (tlv-fits _ c.first_tlv.ensures c.in-Tlv.is).1
+slice_bounds-self-start c = omega (arith, tlv-fits _ c.first_tlv.ensures c.in-Tlv.is)
 
 pub returns-in-End : goal.returns-in-End
 returns-in-End c =
