@@ -19,8 +19,8 @@ fn main(rt: HostRuntime) -> io::Result<()> {
         tables: &tables,
         card: start::ready(&tables, false),
     };
-    let mut input = rt.reader();
-    let mut text = Vec::new(rt.alloc());
+    let mut input = rt.stdin();
+    let mut text = [0; script::LONGEST];
     let mut octets = [0; 4097];
     for number in 1..u64::MAX {
         match script::next_line(&mut input, &mut text, &mut octets) {

@@ -1,9 +1,11 @@
 // The lines of the script: what each does, or where it is wrong.
-ghost use Rattle.std.specs.Prelude.{◌≤◌, length, IfOk};
+ghost use Rattle.std.specs.Prelude.{◌≤◌, length, take, IfOk};
+ghost use Rattle.std.specs.Io.{StopsAt};
+ghost use Rattle.std.specs.Io.KnownBytes.{Consumes};
 
 use hexadecimal::ReadError;
-use std::fmt;
-use std::io::{BufRead, Read};
+use std::io::Read;
+use std::{fmt, io};
 
 // What a line does, by its letter.
 #[derive(Clone, Copy, PartialEq, Eq)]
@@ -59,29 +61,40 @@ pub struct Wrong {
 }
 
 // The most characters that a line has, its end among them.
-const LONGEST: usize = 8257;
+pub const LONGEST: usize = 8257;
 
 // Reads the next line into `text`, and its octets into `buf`. A line is read no further than its end, so it is answered
 // before the next one is there.
-pub fn next_line<'a, R: BufRead>(
+pub fn next_line<'a, R: Read>(
     input: &mut R,
-    text: &'a mut Vec<u8>,
+    text: &'a mut [u8],
     buf: &'a mut [u8],
 ) -> Result<Next<'a>, Wrong> {
-    text.clear();
-    let mut characters = Read::take(input, LONGEST as u64);
-    if characters.read_until(b'\n', text).is_err() {
-        return Err(Wrong::new(0, Why::NotRead));
+    let n = read_line(input, text).map_err(|_| Wrong::new(0, Why::NotRead))?;
+    match &text[..n] {
+        [] => Ok(Next::End),
+        [line @ .., b'\n'] => parsed(line, buf),
+        _ if n == text.len() => Err(Wrong::new(n, Why::LongLine)),
+        line => parsed(line, buf),
     }
-    if text.is_empty() {
-        return Ok(Next::End);
+}
+
+// Reads a character at a time, up to a line end, the input's end or the buffer's; how many it read. It takes no more
+// than these from the input.
+fn read_line<R: Read>(input: &mut R, buf: &mut [u8]) -> io::Result<usize>
+    ensures room { IfOk result (λ n. n ≤ length buf.new) }
+    ensures stops { IfOk result (λ n. StopsAt (take n buf.new) 10) }
+    ensures taken { IfOk result (λ n. Consumes (R.remaining input.old) (R.remaining input.new) (take n buf.new)) }
+{
+    for n in 0..buf.len() {
+        if input.read(&mut buf[n..=n])? == 0 {
+            return Ok(n);
+        }
+        if buf[n] == b'\n' {
+            return Ok(n + 1);
+        }
     }
-    if text.last() == Some(&b'\n') {
-        text.pop();
-    } else if text.len() == LONGEST {
-        return Err(Wrong::new(LONGEST, Why::LongLine));
-    }
-    parsed(text.as_slice(), buf)
+    Ok(buf.len())
 }
 
 fn parsed<'a>(line: &'a [u8], buf: &'a mut [u8]) -> Result<Next<'a>, Wrong> {
