@@ -4,7 +4,7 @@
 --     turn-mine, turn-later, turn-sum, turn-first    a turn takes the first that is left
 --     seen_first, seen_none                          a search from one record on
 -- Assumes nothing.
-use Rattle.std.proofs.Common.{◌≡◌, ℕ, zero, suc, ◌+◌, ◌-◌, ◌<◌, ◌≤◌, Bool, true, false, cond, ◌&&◌, eqb, Option, Some, None, List, [], ◌∷◌, ◌++◌, map, length, take, drop, get_or, All, refl, sym, ap, subst, ◌∙◌, arith}
+use Rattle.std.proofs.Common.{◌≡◌, ℕ, zero, suc, ◌+◌, ◌-◌, ◌<◌, ◌≤◌, min, Bool, true, false, cond, ◌&&◌, eqb, Option, Some, None, List, [], ◌∷◌, ◌++◌, map, length, take, drop, get_or, All, refl, sym, ap, subst, ◌∙◌, arith}
 use Rattle.std.proofs.lemmas.List.{append-nil, map-append, length-take, length-drop, get_or-take, get_or-drop}
 use borrow.Author.Tests.{eqb-true, eq-eqb}
 use Rattle.memchr.specs.Find.{is_byte, places_from, places_between, places, Passes, Nowhere, NoneBefore}
@@ -166,35 +166,36 @@ module _ {rest : List ℕ} (e : rest ≡ []) where
   unfolding first_of
   end-first test = ap (first_of test) e
 
--- ---- a search from one record on
-module _ (owner : List ℕ) (p from : ℕ) (h : from ≤ 512) (size : length owner ≡ 512) where
+-- ---- a search from one record on, of the n records from there on, or as many as there are
+module _ (owner : List ℕ) (p from n : ℕ) (h : from ≤ 512) (size : length owner ≡ 512) where
   abbrev rest : List ℕ
-  rest = take (512 - from) (drop from owner)
+  rest = take n (drop from owner)
 
-  length-rest : length rest ≡ 512 - from
-  length-rest = length-take (512 - from) (drop from owner) ∙ omega (arith, length-drop from owner)
+  length-rest : length rest ≡ min n (512 - from)
+  length-rest = length-take n (drop from owner) ∙ omega (arith, length-drop from owner)
 
-  at-rest : (i : ℕ) → i < 512 - from → get_or rest i 0 ≡ get_or owner (from + i) 0
-  at-rest i l = get_or-take (512 - from) (drop from owner) i 0 l ∙ get_or-drop from owner i 0
+  at-rest : (i : ℕ) → i < n → get_or rest i 0 ≡ get_or owner (from + i) 0
+  at-rest i l = get_or-take n (drop from owner) i 0 l ∙ get_or-drop from owner i 0
 
-  not-before : (i : ℕ) → i ≤ 512 - from → Nowhere (Passes (is_byte p) rest) 0 i → (j : ℕ) → from ≤ j → j < from + i → get_or owner j 0 ≡ p → ⊥
-  not-before i l none j m n e =
+  not-before : (i : ℕ) → i ≤ n → Nowhere (Passes (is_byte p) rest) 0 i → (j : ℕ) → from ≤ j → j < from + i → get_or owner j 0 ≡ p → ⊥
+  not-before i l none j low high e =
       let at : from + (j - from) ≡ j = omega arith in
       none (j - from) (omega arith) (omega arith) (eq-eqb _ _ (at-rest (j - from) (omega arith) ∙ ap (λ (k : ℕ). get_or owner k 0) at ∙ e))
 
   pub seen_first : {i : ℕ} → NoneBefore (Passes (is_byte p) rest) 0 (length rest) i → Passes (is_byte p) rest i → Next owner p from (from + i)
   seen_first {i} b t =
-      let l : i < 512 - from = omega (arith, b.high, length-rest) in
-      record { reached = omega arith; most = omega arith; has = λ m. sym (at-rest i l) ∙ eqb-true _ _ t; others = not-before i (omega arith) b.before }
+      let l : i < min n (512 - from) = omega (arith, b.high, length-rest) in
+      record { reached = omega arith; most = omega arith; has = λ m. sym (at-rest i (omega arith)) ∙ eqb-true _ _ t; others = not-before i (omega arith) b.before }
 
-  pub seen_none : Nowhere (Passes (is_byte p) rest) 0 (length rest) → Next owner p from 512
-  seen_none none =
-      let all : from + (512 - from) ≡ 512 = omega arith in
+  pub seen_none : Nowhere (Passes (is_byte p) rest) 0 (length rest) → 512 ≤ from + n → Next owner p from 512
+  seen_none none all =
+      let every : from + (512 - from) ≡ 512 = omega arith in
+      let e : length rest ≡ 512 - from = omega (arith, length-rest) in
       record {
         reached = h;
         most = omega arith;
         has = λ m. absurd (omega arith);
-        others = λ j l m e. not-before (512 - from) (omega arith) (subst (Nowhere (Passes (is_byte p) rest) 0) length-rest none) j l (omega arith) e;
+        others = λ j l m e'. not-before (512 - from) (omega arith) (subst (Nowhere (Passes (is_byte p) rest) 0) e none) j l (omega arith) e';
       }
 
 -- ---- what is left of a port's records

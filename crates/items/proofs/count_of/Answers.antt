@@ -12,7 +12,7 @@ count-requires-clause-fits c = inl (rw (c.filter.ensures.source, c.of.ensures) (
 pub returns : goal.returns
 returns c =
     let e : c.count.result ≡ count_of c.args.kind (items_of c.args.s.now) =
-        count_from_yields_List c.filter.result _ c.count.ensures.ran
-        (YieldsList-from_filter _ (λ (i : Item). nat_eq i.kind c.args.kind) (YieldsList-at c.filter.ensures.source (YieldsList-from_first item_at items_left _ c.of.ensures)) c.filter.ensures.closure (λ x b q k. search (rules, tests)))
-        ∙ counted c.args.kind (items_of c.args.s.now) in
+    count_from_yields_List c.filter.result _ c.count.ensures.ran
+    (YieldsList-from_filter _ (λ (i : Item). nat_eq i.kind c.args.kind) (YieldsList-at c.filter.ensures.source (YieldsList-from_first item_at items_left _ c.of.ensures)) c.filter.ensures.closure (λ x b q k. search (rules, tests)))
+    ∙ counted c.args.kind (items_of c.args.s.now) in
     omega (arith, e)
